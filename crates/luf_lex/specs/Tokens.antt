@@ -1,5 +1,5 @@
 -- The tokens of a cut, numbered from 0.
-use Rattle.std.specs.Prelude.{◌≡◌, ℕ, ◌+◌, ◌<◌, ◌^◌, Bool, true, false, Option, Some, None, List, [], ◌∷◌, ◌++◌, if◌then◌else◌, length, map, slice_range}
+use Rattle.std.specs.Prelude.{◌≡◌, ℕ, ◌+◌, ◌≤◌, Bool, true, false, Option, Some, None, List, [], ◌∷◌, ◌++◌, if◌then◌else◌, length, map, slice_range}
 use Rattle.std.specs.Option.{option_to_list}
 use Rattle.luf_lex.specs.declared.token.Kind.{Kind}
 use Rattle.luf_lex.specs.declared.token.Kind.TheVariants.{Token}
@@ -42,4 +42,4 @@ token_places at (p ∷ pieces) = if is_token p.kind then at ∷ token_places (at
 -- an index of the tokens of these pieces
 pub record IsIndex (tokens : List ℕ) (pieces : List Piece) : Type 0 where
   pub places : tokens ≡ token_places 0 pieces
-  pub few : length pieces < 2 ^ 32
+  pub few : length pieces ≤ 16777216

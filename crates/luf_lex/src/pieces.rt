@@ -1,6 +1,8 @@
 // The pieces of a source, with an index of the tokens among them.
-ghost use Rattle.std.specs.Prelude.{◌≡◌, ◌<◌, ◌^◌, ◌++◌, ◌∷◌, [], length, slice_get, OnOk};
-ghost use Rattle.luf_lex.specs.Tokens.{toks_of, spans_of, tokens_of, token_places, IsIndex};
+ghost use Rattle.std.specs.Prelude.{◌≡◌, ◌<◌, ◌≤◌, ◌^◌, ◌↔◌, ◌++◌, ◌∷◌, [], length, slice_get, IsTrue, OnOk};
+ghost use Rattle.std.specs.Option.{option_copied};
+ghost use Rattle.luf_lex.specs.Cut.{IsCut};
+ghost use Rattle.luf_lex.specs.Tokens.{toks_of, spans_of, spellings_of, tokens_of, token_places, IsIndex};
 
 use crate::{Kind, Piece, Span, Tok};
 use luf_memory::Memory;
@@ -44,7 +46,8 @@ impl Cut {
 
     /// How many tokens there are.
     pub fn tokens(&self) -> u32
-        ensures { result ≡ length (toks_of self.now) }
+        ensures count { result ≡ length (toks_of self.now) }
+        ensures few { result ≤ 16777216 }
     {
         self.tokens.len() as u32
     }
@@ -59,11 +62,29 @@ impl Cut {
         }
     }
 
+    /// Whether token `n` is there and is this one.
+    pub fn is_at(&self, n: u32, tok: Tok) -> bool
+        ensures { IsTrue result ↔ (slice_get (toks_of self.now) n ≡ Some tok) }
+    {
+        self.token(n) == Some(tok)
+    }
+
     /// Where token `n` lies in the source; None exactly from `tokens` on.
     pub fn span(&self, n: u32) -> Option<Span>
         ensures { result ≡ slice_get (spans_of self.now) n }
     {
         Some(self.piece_of(n)?.span)
+    }
+
+    /// How token `n` is spelled in the source that was cut; None exactly from `tokens` on.
+    pub fn spelling<'a>(&self, src: &'a [u8], n: u32) -> Option<&'a [u8]>
+        requires { IsCut src.now self.now }
+        ensures { option_copied result ≡ slice_get (spellings_of src.now self.now) n }
+    {
+        let span = self.span(n)?;
+        let from = span.from as usize;
+        let to = span.to as usize;
+        Some(&src[from..to])
     }
 
     fn piece_of(&self, n: u32) -> Option<Piece>

@@ -12,5 +12,8 @@ overflow_cast-result c =
 
 pub returns : goal.returns
 returns c =
-    let count : length c.self.inside.tokens.items ≡ length (toks_of c.args.self.now) = ap length c.self.invariant.places ∙ length_places 0 c.self.inside.pieces.items ∙ ap (λ ps. length (toks_of ps)) c.self.view_is in
-    omega arith
+    let pieces = c.self.inside.pieces.items in
+    let count : length c.self.inside.tokens.items ≡ length (toks_of c.args.self.now) = ap length c.self.invariant.places ∙ length_places 0 pieces ∙ ap (λ ps. length (toks_of ps)) c.self.view_is in
+    let fewer : length (toks_of pieces) ≤ length pieces = length_toks-le pieces in
+    let same : length (toks_of pieces) ≡ length (toks_of c.args.self.now) = ap (λ ps. length (toks_of ps)) c.self.view_is in
+    record { count = omega arith; few = omega (arith, c.self.invariant.few) }
