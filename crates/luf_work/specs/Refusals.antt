@@ -1,0 +1,15 @@
+-- The refusal that an error of a part becomes.
+use Rattle.luf_lex.specs.declared.cutting.LexErr.{LexErr}
+use Rattle.luf_lex.specs.declared.cutting.LexErr.TheVariants as lex
+use Rattle.luf_tree.specs.declared.parse_small.SmallErr.{SmallErr}
+use Rattle.luf_tree.specs.declared.parse_small.SmallErr.TheVariants as small
+use Rattle.luf_work.specs.declared.refusal.Refusal.{Refusal}
+use Rattle.luf_work.specs.declared.refusal.Refusal.TheVariants.{NotYet, Memory}
+
+abbrev pub lex_refusal : LexErr → Refusal
+lex_refusal lex.NotYet = NotYet
+lex_refusal lex.Memory = Memory
+
+abbrev pub small_refusal : SmallErr → Refusal
+small_refusal small.NotYet = NotYet
+small_refusal small.Memory = Memory

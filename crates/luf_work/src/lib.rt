@@ -1,0 +1,9 @@
+//! The jobs of luafmt, from the bytes of a source to the bytes of a text.
+#![tactic(auto)]
+
+mod minify;
+mod refusal;
+mod text;
+
+pub use minify::minify_bytes;
+pub use refusal::Refusal;
