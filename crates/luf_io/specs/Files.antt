@@ -1,0 +1,36 @@
+-- Files by name. They may be told, as a map from the bytes of a name to the bytes of the file; a clause on their
+-- content holds where they are told. Our own rule.
+use Rattle.std.specs.Prelude.{◌≡◌, ℕ, ◌<◌, ◌≤◌, List, ◌++◌, length, Option, Some, None, Result, Ok, Err}
+use Rattle.std.specs.Option.{ForSome}
+use Rattle.std.specs.Ordering.{nat_cmp}
+use Rattle.std.specs.Cmp.Lexicographic.{slice_cmp}
+use Rattle.std.specs.FinMap.{FinMap, get}
+use Rattle.luf_io.specs.Count.{Rose}
+use Rattle.luf_io.specs.declared.files.FileFault.{FileFault}
+use Rattle.luf_io.specs.declared.files.FileFault.TheVariants.{Failed, Memory}
+
+-- from the bytes of each name to the bytes of its file
+abbrev pub FileMap : Type 0
+FileMap = FinMap (slice_cmp nat_cmp) (List ℕ)
+
+-- the whole file was appended to a buffer: it has at most `most` bytes
+pub record AppendsFile (told : Option FileMap) (name : List ℕ) (most : ℕ) (before after : List ℕ) : Type 0 where
+  pub bytes : List ℕ
+  pub appended : after ≡ before ++ bytes
+  pub within : length bytes ≤ most
+  pub of_file : ForSome told (λ files. get files name ≡ Some bytes)
+
+-- the file is there and has more than `most` bytes
+abbrev pub IsTooLong : Option FileMap → List ℕ → ℕ → Type 0
+IsTooLong told name most =
+    ForSome told (λ files. (bytes : List ℕ) × (get files name ≡ Some bytes) × (most < length bytes))
+
+-- the files are told, and none has this name
+abbrev pub IsMissing : Option FileMap → List ℕ → Type 0
+IsMissing told name = (files : FileMap) × (told ≡ Some files) × (get files name ≡ None)
+
+-- A count of faults rises where a call answers `Failed`, and stays at every other answer.
+abbrev pub Counts : {T : Type 0} → Result T FileFault → ℕ → ℕ → Type 0
+Counts (Ok _) before after = after ≡ before
+Counts (Err Failed) before after = Rose before after
+Counts (Err Memory) before after = after ≡ before

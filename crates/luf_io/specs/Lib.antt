@@ -1,0 +1,5 @@
+pub mod Count
+pub mod Files
+pub mod Read
+pub mod Sink
+pub mod Source
