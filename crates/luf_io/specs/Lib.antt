@@ -1,4 +1,5 @@
 pub mod Count
+pub mod FileFaults
 pub mod Files
 pub mod Read
 pub mod Sink

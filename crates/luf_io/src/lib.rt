@@ -7,13 +7,15 @@ mod files;
 mod read;
 mod sink;
 mod source;
+mod write;
 
 
-pub use files::{FileFault, Files};
+pub use files::{FileFault, Files, NoFiles};
 pub use luf_memory::Memory;
-pub use read::ReadErr;
-pub use sink::Sink;
-pub use source::Source;
+pub use read::{ReadErr, read_all};
+pub use sink::{MemSink, Sink};
+pub use source::{MemSource, Source};
+pub use write::{WriteErr, write_all};
 
 
 /// A pull or a put failed.

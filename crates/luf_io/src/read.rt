@@ -1,11 +1,10 @@
 //! Reads all that a source has left, within a limit.
-ghost use Rattle.std.specs.Prelude.{◌≡◌, ℕ, ◌<◌, ◌≤◌, List, [], ◌++◌, Some, length, OnOk, OnErr};
+ghost use Rattle.std.specs.Prelude.{◌≡◌, ℕ, ◌<◌, ◌≤◌, List, [], ◌++◌, length, take, vec_len, IfOk, OnOk, OnErr};
 ghost use Rattle.std.specs.Option.{ForSome};
-ghost use Rattle.luf_io.specs.Source.{Taken};
+ghost use Rattle.luf_io.specs.Source.{Taken, IsAtEnd};
 ghost use Rattle.luf_io.specs.Read.{Counts, Pulls};
 
 use crate::Source;
-use luf_memory::Memory;
 use std::alloc::{AllocError, Global};
 use thiserror::Error;
 
@@ -21,4 +20,110 @@ pub enum ReadErr {
     /// No memory was found.
     #[error("out of memory")]
     Memory,
+}
+
+impl From<AllocError> for ReadErr {
+    ghost use Rattle.luf_io.specs.declared.read.ReadErr.TheVariants.{Memory};
+
+    ghost from_gives = { λ _ e. e ≡ Memory };
+
+    fn from(_: AllocError) -> ReadErr {
+        ReadErr::Memory
+    }
+}
+
+// How many bytes one pull asks for at most.
+const BUFFER: usize = 65536;
+
+/// Appends all that a source has left, if that is at most `most` bytes. It pulls at most one byte more than that.
+///
+/// # Errors
+///
+/// `Fault`, where a pull failed; `TooLarge`, where more than `most` bytes were pulled; `Memory`. `into` is as before then,
+/// and the source has been read further.
+pub fn read_all<I: Source>(
+    alloc: Global,
+    i: &mut I,
+    most: usize,
+    into: &mut Vec<u8>,
+) -> Result<(), ReadErr>
+    // The bytes that were pulled are all that was taken from the source, and on Ok they are what was appended.
+    ensures pulled { (pulled : List ℕ)
+        × Taken (I.left i.old) pulled (I.left i.new)
+        × Pulls result most (length pulled)
+        × OnOk result (into.new.items ≡ into.old.items ++ pulled) }
+    ensures end { OnOk result (IsAtEnd (I.left i.new)) }
+    ensures err { OnErr result (into.new.items ≡ into.old.items) }
+    ensures counted { Counts result (I.faults i.old) (I.faults i.new) }
+
+    // The same for a source that tells what it has.
+    ensures all { OnOk result (ForSome (I.left i.old)
+        (λ bytes. (into.new.items ≡ into.old.items ++ bytes) × (length bytes ≤ most) × (I.left i.new ≡ Some []))) }
+    ensures too_large { result ≡ Err ReadErr.TooLarge → ForSome (I.left i.old) (λ bytes. most < length bytes) }
+{
+    let len = into.len();
+    let result = append_all(alloc, i, most, into);
+    if result.is_err() {
+        into.truncate(len);
+    }
+    result
+}
+
+// `read_all`, but what was appended before an error stays.
+fn append_all<I: Source>(
+    alloc: Global,
+    i: &mut I,
+    most: usize,
+    into: &mut Vec<u8>,
+) -> Result<(), ReadErr>
+    ensures pulled { (pulled : List ℕ)
+        × Taken (I.left i.old) pulled (I.left i.new)
+        × Pulls result most (length pulled)
+        × OnOk result (into.new.items ≡ into.old.items ++ pulled) }
+    ensures end { OnOk result (IsAtEnd (I.left i.new)) }
+    ensures err { OnErr result (take (vec_len into.old) into.new.items ≡ into.old.items) }
+    ensures counted { Counts result (I.faults i.old) (I.faults i.new) }
+{
+    let mut buffer = vec![in alloc; 0; BUFFER]?;
+    let mut room = most;
+    loop {
+        let count = append_piece(i, &mut buffer, room, into)?;
+        if count == 0 {
+            return Ok(());
+        }
+        room -= count;
+    }
+}
+
+// Pulls once, at most one byte more than the room, and appends what came. It answers how many bytes these are, 0 at the
+// end.
+fn append_piece<I: Source>(
+    i: &mut I,
+    buffer: &mut [u8],
+    room: usize,
+    into: &mut Vec<u8>,
+) -> Result<usize, ReadErr>
+    requires { 0 < length buffer.old }
+    ensures pulled { (pulled : List ℕ)
+        × Taken (I.left i.old) pulled (I.left i.new)
+        × Pulls result room (length pulled)
+        × IfOk result (λ count. (length pulled ≡ count) × (into.new.items ≡ into.old.items ++ pulled)) }
+    ensures end { IfOk result (λ count. count ≡ 0 → IsAtEnd (I.left i.new)) }
+    ensures err { OnErr result (into.new.items ≡ into.old.items) }
+    ensures counted { Counts result (I.faults i.old) (I.faults i.new) }
+{
+    let width = if room < buffer.len() {
+        room + 1
+    } else {
+        buffer.len()
+    };
+    let count = match i.pull(&mut buffer[..width]) {
+        Ok(count) => count,
+        Err(_) => return Err(ReadErr::Fault),
+    };
+    if count > room {
+        return Err(ReadErr::TooLarge);
+    }
+    into.extend_from_slice(&buffer[..count])?;
+    Ok(count)
 }
