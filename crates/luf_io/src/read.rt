@@ -61,37 +61,45 @@ pub fn read_all<I: Source>(
         (λ bytes. (into.new.items ≡ into.old.items ++ bytes) × (length bytes ≤ most) × (I.left i.new ≡ Some []))) }
     ensures too_large { result ≡ Err ReadErr.TooLarge → ForSome (I.left i.old) (λ bytes. most < length bytes) }
 {
+    let mut buffer = zeros(alloc, BUFFER)?;
     let len = into.len();
-    let result = append_all(alloc, i, most, into);
+    let result = append_pieces(i, &mut buffer, most, into);
     if result.is_err() {
         into.truncate(len);
     }
     result
 }
 
-// `read_all`, but what was appended before an error stays.
-fn append_all<I: Source>(
-    alloc: Global,
+// So many zeros. The number is a parameter so that no proof writes out the list.
+fn zeros(alloc: Global, len: usize) -> Result<Vec<u8>, AllocError>
+    ensures { IfOk result (λ buffer. vec_len buffer ≡ len) }
+{
+    vec![in alloc; 0; len]
+}
+
+// `read_all` with a buffer, but what was appended before an error stays.
+fn append_pieces<I: Source>(
     i: &mut I,
+    buffer: &mut [u8],
     most: usize,
     into: &mut Vec<u8>,
 ) -> Result<(), ReadErr>
+    requires { 0 < length buffer.old }
     ensures pulled { (pulled : List ℕ)
         × Taken (I.left i.old) pulled (I.left i.new)
         × Pulls result most (length pulled)
         × OnOk result (into.new.items ≡ into.old.items ++ pulled) }
     ensures end { OnOk result (IsAtEnd (I.left i.new)) }
-    ensures err { OnErr result (take (vec_len into.old) into.new.items ≡ into.old.items) }
+    ensures err { OnErr result (take (length into.old.items) into.new.items ≡ into.old.items) }
     ensures counted { Counts result (I.faults i.old) (I.faults i.new) }
 {
-    let mut buffer = vec![in alloc; 0; BUFFER]?;
     let mut room = most;
     loop {
-        let count = append_piece(i, &mut buffer, room, into)?;
-        if count == 0 {
-            return Ok(());
+        match append_piece(i, buffer, room, into) {
+            Ok(0) => return Ok(()),
+            Ok(count) => room -= count,
+            Err(error) => return Err(error),
         }
-        room -= count;
     }
 }
 

@@ -87,10 +87,11 @@ impl Source for MemSource {
     /// Fails exactly at the calls that were listed. Any other call gives as much as the step, the buffer and the bytes
     /// that are left allow.
     fn pull(&mut self, into: &mut [u8]) -> Result<usize, Failed>
+        requires { 0 < length into.old }
         ensures listed { IsErr result ↔ Contains self.old.fails (next_count self.old.calls) }
         ensures gives { IfOk result (λ n. n ≡ min self.old.step (min (length into.new) (length self.old.left))) }
         ensures given { IfOk result (λ n. self.old.left ≡ take n into.new ++ self.new.left) }
-        ensures end { IfOk result (λ n. n ≡ 0 → 0 < length into.new → self.old.left ≡ []) }
+        ensures end { IfOk result (λ n. n ≡ 0 → self.old.left ≡ []) }
         ensures after { IfOk result (λ n. self.new
             ≡ record self.old { left = drop n self.old.left; calls = next_count self.old.calls }) }
         ensures failed { OnErr result (self.new
