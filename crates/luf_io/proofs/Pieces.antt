@@ -5,7 +5,7 @@ use Rattle.std.proofs.lemmas.List.{take-append-drop, take_at, length-take-le}
 use Rattle.std.proofs.lemmas.Simd.{chunk-drop}
 use Rattle.luf_io.specs.Source.{Taken}
 use Rattle.luf_io.specs.Sink.{Appends}
-use Rattle.luf_io.specs.Read.{Pulls}
+use Rattle.luf_io.specs.Read.{PullsWithin}
 use Rattle.luf_io.specs.declared.read.ReadErr.{ReadErr}
 use Rattle.luf_io.specs.declared.read.ReadErr.TheVariants.{Fault, TooLarge, Memory}
 
@@ -33,7 +33,7 @@ Appends-take before bytes done taken between after first second =
     subst (λ piece. Appends before piece after) (sym (take-add done taken bytes)) (Appends-append before _ between _ after first second)
 
 -- an error after some pieces: the pieces before, and what was pulled in the last call
-pub Pulls-append : (e : ReadErr) (p q : List ℕ) (room most : ℕ) → length p + room ≡ most → Pulls {T = ℕ} (Err e) room (length q) → Pulls {T = Unit {0}} (Err e) most (length (p ++ q))
-Pulls-append Fault p q room most limit last = simp length-append (omega arith)
-Pulls-append TooLarge p q room most limit last = simp length-append (omega arith)
-Pulls-append Memory p q room most limit last = simp length-append (omega arith)
+pub PullsWithin-append : (e : ReadErr) (p q : List ℕ) (room most : ℕ) → length p + room ≡ most → PullsWithin {T = ℕ} (Err e) room (length q) → PullsWithin {T = Unit {0}} (Err e) most (length (p ++ q))
+PullsWithin-append Fault p q room most limit last = simp length-append (omega arith)
+PullsWithin-append TooLarge p q room most limit last = simp length-append (omega arith)
+PullsWithin-append Memory p q room most limit last = simp length-append (omega arith)

@@ -1,6 +1,6 @@
 -- Files by name. They may be told, as a map from the bytes of a name to the bytes of the file; a clause on their
 -- content holds where they are told. Our own rule.
-use Rattle.std.specs.Prelude.{◌≡◌, ℕ, ◌<◌, ◌≤◌, List, ◌++◌, length, Option, Some, None, Result, Ok, Err}
+use Rattle.std.specs.Prelude.{◌≡◌, ℕ, ◌<◌, ◌≤◌, ◌⊎◌, Bool, List, ◌++◌, length, Option, Some, None, Result, Ok, Err}
 use Rattle.std.specs.Option.{ForSome}
 use Rattle.std.specs.Ordering.{nat_cmp}
 use Rattle.std.specs.Cmp.Lexicographic.{slice_cmp}
@@ -29,8 +29,14 @@ IsTooLong told name most =
 abbrev pub IsMissing : Option FileMap → List ℕ → Type 0
 IsMissing told name = (files : FileMap) × (told ≡ Some files) × (get files name ≡ None)
 
--- A count of faults rises where a call answers `Failed`, and stays at every other answer.
-abbrev pub Counts : {T : Type 0} → Result T FileFault → ℕ → ℕ → Type 0
-Counts (Ok _) before after = after ≡ before
-Counts (Err Failed) before after = Rose before after
-Counts (Err Memory) before after = after ≡ before
+-- The count of failed calls of `replace` rises where a call answers `Failed`, and stays at every other answer.
+abbrev pub CountsReplace : Result (Unit {0}) FileFault → ℕ → ℕ → Type 0
+CountsReplace (Ok _) before after = after ≡ before
+CountsReplace (Err Failed) before after = Rose before after
+CountsReplace (Err Memory) before after = after ≡ before
+
+-- The count of failed calls of `fetch` does the same, but that a missing file need not raise it.
+abbrev pub CountsFetch : Result Bool FileFault → Option FileMap → List ℕ → ℕ → ℕ → Type 0
+CountsFetch (Ok _) told name before after = after ≡ before
+CountsFetch (Err Failed) told name before after = Rose before after ⊎ (IsMissing told name × (after ≡ before))
+CountsFetch (Err Memory) told name before after = after ≡ before

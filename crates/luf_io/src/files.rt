@@ -1,9 +1,9 @@
 //! Files by name.
-ghost use Rattle.std.specs.Prelude.{◌≡◌, ◌≢◌, ℕ, ◌⊎◌, List, Option, option_map, IfOk, OnOk, OnErr, MatchBool};
+ghost use Rattle.std.specs.Prelude.{◌≡◌, ℕ, List, Option, option_map, IfOk, OnOk, OnErr, MatchBool};
 ghost use Rattle.std.specs.Bool.{OnFalse};
 ghost use Rattle.std.specs.FinMap.{insert};
 ghost use Rattle.luf_io.specs.Count.{Rose, next_count};
-ghost use Rattle.luf_io.specs.Files.{FileMap, AppendsFile, IsTooLong, IsMissing, Counts};
+ghost use Rattle.luf_io.specs.Files.{FileMap, AppendsFile, IsTooLong, CountsFetch, CountsReplace};
 
 use std::alloc::Global;
 use std::marker::Model;
@@ -43,8 +43,7 @@ pub trait Files {
         ensures whole { IfOk result (λ whole. MatchBool whole (AppendsFile (told self.old) name.now most into.old.items into.new.items) (into.new.items ≡ into.old.items)) }
         ensures long { IfOk result (λ whole. OnFalse whole (IsTooLong (told self.old) name.now most)) }
         ensures err { OnErr result (into.new.items ≡ into.old.items) }
-        ensures failed { result ≡ Err FileFault.Failed → Rose (fetch_faults self.old) (fetch_faults self.new) ⊎ (IsMissing (told self.old) name.now × (fetch_faults self.new ≡ fetch_faults self.old)) }
-        ensures calm { result ≢ Err FileFault.Failed → fetch_faults self.new ≡ fetch_faults self.old }
+        ensures counted { CountsFetch result (told self.old) name.now (fetch_faults self.old) (fetch_faults self.new) }
         ensures reads { told self.new ≡ told self.old }
         ensures other { replace_faults self.new ≡ replace_faults self.old };
 
@@ -56,7 +55,7 @@ pub trait Files {
     fn replace(&mut self, alloc: Global, name: &str, bytes: &[u8]) -> Result<(), FileFault>
         ensures ok { OnOk result (told self.new ≡ option_map (λ files. insert files name.now bytes.now) (told self.old)) }
         ensures err { OnErr result (told self.new ≡ told self.old) }
-        ensures counted { Counts result (replace_faults self.old) (replace_faults self.new) }
+        ensures counted { CountsReplace result (replace_faults self.old) (replace_faults self.new) }
         ensures other { fetch_faults self.new ≡ fetch_faults self.old };
 }
 

@@ -9,14 +9,12 @@ mod sink;
 mod source;
 mod write;
 
-
 pub use files::{FileFault, Files, NoFiles};
 pub use luf_memory::Memory;
 pub use read::{ReadErr, read_all};
 pub use sink::{MemSink, Sink};
 pub use source::{MemSource, Source};
 pub use write::{WriteErr, write_all};
-
 
 /// A pull or a put failed.
 #[derive(Clone, Copy, Debug, PartialEq, Eq)]

@@ -2,7 +2,7 @@
 ghost use Rattle.std.specs.Prelude.{◌≡◌, ℕ, ◌<◌, ◌≤◌, List, [], ◌++◌, length, take, vec_len, IfOk, OnOk, OnErr};
 ghost use Rattle.std.specs.Option.{ForSome};
 ghost use Rattle.luf_io.specs.Source.{Taken, IsAtEnd};
-ghost use Rattle.luf_io.specs.Read.{Counts, Pulls};
+ghost use Rattle.luf_io.specs.Read.{CountsFault, PullsWithin};
 
 use crate::Source;
 use std::alloc::{AllocError, Global};
@@ -50,11 +50,11 @@ pub fn read_all<I: Source>(
     // The bytes that were pulled are all that was taken from the source, and on Ok they are what was appended.
     ensures pulled { (pulled : List ℕ)
         × Taken (I.left i.old) pulled (I.left i.new)
-        × Pulls result most (length pulled)
+        × PullsWithin result most (length pulled)
         × OnOk result (into.new.items ≡ into.old.items ++ pulled) }
     ensures end { OnOk result (IsAtEnd (I.left i.new)) }
     ensures err { OnErr result (into.new.items ≡ into.old.items) }
-    ensures counted { Counts result (I.faults i.old) (I.faults i.new) }
+    ensures counted { CountsFault result (I.faults i.old) (I.faults i.new) }
 
     // The same for a source that tells what it has.
     ensures all { OnOk result (ForSome (I.left i.old)
@@ -87,11 +87,11 @@ fn append_pieces<I: Source>(
     requires { 0 < length buffer.old }
     ensures pulled { (pulled : List ℕ)
         × Taken (I.left i.old) pulled (I.left i.new)
-        × Pulls result most (length pulled)
+        × PullsWithin result most (length pulled)
         × OnOk result (into.new.items ≡ into.old.items ++ pulled) }
     ensures end { OnOk result (IsAtEnd (I.left i.new)) }
     ensures err { OnErr result (take (length into.old.items) into.new.items ≡ into.old.items) }
-    ensures counted { Counts result (I.faults i.old) (I.faults i.new) }
+    ensures counted { CountsFault result (I.faults i.old) (I.faults i.new) }
 {
     let mut room = most;
     loop {
@@ -103,7 +103,7 @@ fn append_pieces<I: Source>(
     }
 }
 
-// Pulls once, at most one byte more than the room, and appends what came. It answers how many bytes these are, 0 at the
+// PullsWithin once, at most one byte more than the room, and appends what came. It answers how many bytes these are, 0 at the
 // end.
 fn append_piece<I: Source>(
     i: &mut I,
@@ -114,11 +114,11 @@ fn append_piece<I: Source>(
     requires { 0 < length buffer.old }
     ensures pulled { (pulled : List ℕ)
         × Taken (I.left i.old) pulled (I.left i.new)
-        × Pulls result room (length pulled)
+        × PullsWithin result room (length pulled)
         × IfOk result (λ count. (length pulled ≡ count) × (into.new.items ≡ into.old.items ++ pulled)) }
     ensures end { IfOk result (λ count. count ≡ 0 → IsAtEnd (I.left i.new)) }
     ensures err { OnErr result (into.new.items ≡ into.old.items) }
-    ensures counted { Counts result (I.faults i.old) (I.faults i.new) }
+    ensures counted { CountsFault result (I.faults i.old) (I.faults i.new) }
 {
     let width = if room < buffer.len() {
         room + 1

@@ -50,12 +50,13 @@ impl Model for MemSink {
     ghost Value = { SinkState };
 
     ghost view = { λ s. record {
-        written = s.written.items;
-        room = s.room;
-        step = s.step;
-        fails = s.fails.items;
-        calls = s.calls;
-        faults = s.faults } };
+      written = s.written.items;
+      room = s.room;
+      step = s.step;
+      fails = s.fails.items;
+      calls = s.calls;
+      faults = s.faults;
+    } };
 
     ghost invariant = { λ s. (vec_len s.written + s.room ≤ vec_capacity s.written) × (0 < s.step) };
 }
@@ -63,12 +64,7 @@ impl Model for MemSink {
 impl MemSink {
     /// A sink with room for `room` bytes, which it takes from the allocator now. One call takes at most `step` bytes, and
     /// the calls whose numbers are in `fails` fail.
-    pub fn new(
-        alloc: Global,
-        room: usize,
-        step: usize,
-        fails: Vec<u64>,
-    ) -> Result<MemSink, Memory>
+    pub fn new(alloc: Global, room: usize, step: usize, fails: Vec<u64>) -> Result<MemSink, Memory>
         requires { 0 < step }
         ensures { IfOk result (λ sink. sink
             ≡ record { written = []; room = room; step = step; fails = fails.items; calls = 0; faults = 0 }) }
@@ -103,14 +99,15 @@ impl Sink for MemSink {
     fn put(&mut self, piece: &[u8]) -> Result<usize, Failed>
         ensures refused { IsErr result
             ↔ (Contains self.old.fails (next_count self.old.calls)
-                ⊎ ((self.old.room ≡ 0) × (0 < length piece.now))) }
+            ⊎ ((self.old.room ≡ 0) × (0 < length piece.now))) }
         ensures takes { IfOk result (λ n. n ≡ min self.old.step (min (length piece.now) self.old.room)) }
         ensures moves { IfOk result (λ n. 0 < length piece.now → 0 < n) }
         ensures after { IfOk result (λ n. self.new
             ≡ record self.old {
-                written = self.old.written ++ take n piece.now;
-                room = self.old.room - n;
-                calls = next_count self.old.calls }) }
+              written = self.old.written ++ take n piece.now;
+              room = self.old.room - n;
+              calls = next_count self.old.calls;
+            }) }
         ensures failed { OnErr result (self.new
             ≡ record self.old { calls = next_count self.old.calls; faults = next_count self.old.faults }) }
         ensures rose { OnErr result (Rose self.old.faults self.new.faults) }

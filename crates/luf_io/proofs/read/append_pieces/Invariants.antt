@@ -10,7 +10,7 @@ invariant-loop-count g l =
       taken : Taken (g.I.Source.left l.initial.i) pulled (g.I.Source.left l.i);
       appended : l.into.items ≡ l.initial.into.items ++ pulled;
       limit : length pulled + l.room ≡ l.most;
-      calm : g.I.Source.faults l.i ≡ g.I.Source.faults l.initial.i
+      calm : g.I.Source.faults l.i ≡ g.I.Source.faults l.initial.i;
     }
 
 abbrev pub decreases-loop-count : goal.decreases-loop-count

@@ -12,5 +12,5 @@ loop-done-preserved g c =
     record {
       within = omega (arith, simp (take_rest, length-drop) at e.count);
       put = Appends-take _ bytes done c.in-Ok.taken _ _ w.put (simp take_rest at e.taken);
-      calm = e.calm ∙ w.calm
+      calm = e.calm ∙ w.calm;
     }

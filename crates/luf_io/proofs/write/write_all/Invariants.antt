@@ -8,7 +8,7 @@ invariant-loop-done g l =
     record {
       within : l.done ≤ length l.bytes;
       put : Appends (g.O.Sink.written l.initial.o) (take l.done l.bytes) (g.O.Sink.written l.o);
-      calm : g.O.Sink.faults l.o ≡ g.O.Sink.faults l.initial.o
+      calm : g.O.Sink.faults l.o ≡ g.O.Sink.faults l.initial.o;
     }
 
 abbrev pub decreases-loop-done : goal.decreases-loop-done
