@@ -1,4 +1,5 @@
--- Bytes that come from outside. A source may tell what is left; a clause on it holds where it is told. Our own rule.
+-- Bytes that come from outside. A source may tell what is left; a clause on it holds where it is told.
+-- Our own rule.
 use Rattle.std.specs.Prelude.{◌≡◌, ℕ, List, [], ◌++◌, Option, option_map}
 use Rattle.std.specs.Option.{ForSome}
 
@@ -11,8 +12,8 @@ Taken before piece after = before ≡ option_map (λ rest. piece ++ rest) after
 abbrev pub IsAtEnd : Option (List ℕ) → Type 0
 IsAtEnd left = ForSome left (λ bytes. bytes ≡ [])
 
--- What a source in memory is: the bytes that are left, the most that one pull gives, the numbers of the calls that
--- fail, and how many calls there were and how many of them failed.
+-- What a source in memory is: the bytes that are left, the most that one pull gives, the numbers of the
+-- calls that fail, and how many calls there were and how many of them failed.
 pub record SourceState : Type 0 where
   pub left : List ℕ
   pub step : ℕ

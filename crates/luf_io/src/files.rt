@@ -1,5 +1,6 @@
 //! Files by name.
-ghost use Rattle.std.specs.Prelude.{◌≡◌, ℕ, List, Option, option_map, IfOk, OnOk, OnErr, MatchBool};
+ghost use Rattle.std.specs.Prelude.{◌≡◌, ℕ, List, Option, option_map};
+ghost use Rattle.std.specs.Prelude.{IfOk, OnOk, OnErr, MatchBool};
 ghost use Rattle.std.specs.Bool.{OnFalse};
 ghost use Rattle.std.specs.FinMap.{insert};
 ghost use Rattle.luf_io.specs.Count.{Rose, next_count};
@@ -28,11 +29,12 @@ pub trait Files {
     /// The files, where they are told.
     ghost told: { Self → Option FileMap };
 
-    /// Appends a whole file and answers true. A file of more than `most` bytes is not read: the answer is false then.
+    /// Appends a whole file and answers true. The answer is false, with the buffer as before, for
+    /// a file of more than `most` bytes.
     ///
     /// # Errors
     ///
-    /// `Failed`, at any time and where the file is missing; `Memory`. The buffer is as before.
+    /// `Failed`, at any time, and where the file is missing; `Memory`. The buffer is as before.
     fn fetch(
         &mut self,
         alloc: Global,
@@ -40,10 +42,14 @@ pub trait Files {
         most: usize,
         into: &mut Vec<u8>,
     ) -> Result<bool, FileFault>
-        ensures whole { IfOk result (λ whole. MatchBool whole (AppendsFile (told self.old) name.now most into.old.items into.new.items) (into.new.items ≡ into.old.items)) }
-        ensures long { IfOk result (λ whole. OnFalse whole (IsTooLong (told self.old) name.now most)) }
+        ensures whole { IfOk result (λ whole. MatchBool whole
+            (AppendsFile (told self.old) name.now most into.old.items into.new.items)
+            (into.new.items ≡ into.old.items)) }
+        ensures long { IfOk result
+            (λ whole. OnFalse whole (IsTooLong (told self.old) name.now most)) }
         ensures err { OnErr result (into.new.items ≡ into.old.items) }
-        ensures counted { CountsFetch result (told self.old) name.now (fetch_faults self.old) (fetch_faults self.new) }
+        ensures counted { CountsFetch result
+            (told self.old) name.now (fetch_faults self.old) (fetch_faults self.new) }
         ensures reads { told self.new ≡ told self.old }
         ensures other { replace_faults self.new ≡ replace_faults self.old };
 
@@ -53,7 +59,8 @@ pub trait Files {
     ///
     /// `Failed`, at any time; `Memory`. Every file is as before.
     fn replace(&mut self, alloc: Global, name: &str, bytes: &[u8]) -> Result<(), FileFault>
-        ensures ok { OnOk result (told self.new ≡ option_map (λ files. insert files name.now bytes.now) (told self.old)) }
+        ensures ok { OnOk result
+            (told self.new ≡ option_map (λ files. insert files name.now bytes.now) (told self.old)) }
         ensures err { OnErr result (told self.new ≡ told self.old) }
         ensures counted { CountsReplace result (replace_faults self.old) (replace_faults self.new) }
         ensures other { fetch_faults self.new ≡ fetch_faults self.old };
@@ -101,12 +108,12 @@ impl Files for NoFiles {
         _alloc: Global,
         _name: &str,
         _most: usize,
-        _into: &mut Vec<u8>,
+        into: &mut Vec<u8>,
     ) -> Result<bool, FileFault>
         ensures refused { result ≡ Err FileFault.Failed }
         ensures counted { self.new ≡ record self.old { fetches = next_count self.old.fetches } }
         ensures rose { Rose self.old.fetches self.new.fetches }
-        ensures kept { _into.new.items ≡ _into.old.items }
+        ensures kept { into.new.items ≡ into.old.items }
     {
         self.fetches = self.fetches.saturating_add(1);
         Err(FileFault::Failed)

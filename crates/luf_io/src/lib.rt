@@ -1,6 +1,6 @@
-//! The outside as the other crates see it: where bytes come from, where they go, and files by name; and objects
-//! in memory that stand for each. Every call that touches the outside may fail, and each such object counts its
-//! faults, so that a caller can prove that an answer of failure had its cause.
+//! The outside as the other crates see it: where bytes come from, where they go, and files by name;
+//! and objects in memory that stand for each. Any call that touches the outside may fail. Each such
+//! object counts its faults, so that a caller's answer of failure can be proved to have its cause.
 #![tactic(auto)]
 
 mod files;

@@ -1,5 +1,6 @@
 //! Reads all that a source has left, within a limit.
-ghost use Rattle.std.specs.Prelude.{◌≡◌, ℕ, ◌<◌, ◌≤◌, List, [], ◌++◌, length, take, vec_len, IfOk, OnOk, OnErr};
+ghost use Rattle.std.specs.Prelude.{◌≡◌, ℕ, ◌<◌, ◌≤◌, List, [], ◌++◌, length, take, vec_len};
+ghost use Rattle.std.specs.Prelude.{IfOk, OnOk, OnErr};
 ghost use Rattle.std.specs.Option.{ForSome};
 ghost use Rattle.luf_io.specs.Source.{Taken, IsAtEnd};
 ghost use Rattle.luf_io.specs.Read.{CountsFault, PullsWithin};
@@ -35,19 +36,20 @@ impl From<AllocError> for ReadErr {
 // How many bytes one pull asks for at most.
 const BUFFER: usize = 65536;
 
-/// Appends all that a source has left, if that is at most `most` bytes. It pulls at most one byte more than that.
+/// Appends all that a source has left, if that is at most `most` bytes. It pulls at most one byte
+/// more than `most`.
 ///
 /// # Errors
 ///
-/// `Fault`, where a pull failed; `TooLarge`, where more than `most` bytes were pulled; `Memory`. `into` is as before then,
-/// and the source has been read further.
+/// `Fault`, where a pull failed; `TooLarge`, where more than `most` bytes were pulled; `Memory`.
+/// `into` is as before then, and the source has been read further.
 pub fn read_all<I: Source>(
     alloc: Global,
     i: &mut I,
     most: usize,
     into: &mut Vec<u8>,
 ) -> Result<(), ReadErr>
-    // The bytes that were pulled are all that was taken from the source, and on Ok they are what was appended.
+    // What was taken from the source are the bytes that were pulled. On Ok they were appended.
     ensures pulled { (pulled : List ℕ)
         × Taken (I.left i.old) pulled (I.left i.new)
         × PullsWithin result most (length pulled)
@@ -57,9 +59,12 @@ pub fn read_all<I: Source>(
     ensures counted { CountsFault result (I.faults i.old) (I.faults i.new) }
 
     // The same for a source that tells what it has.
-    ensures all { OnOk result (ForSome (I.left i.old)
-        (λ bytes. (into.new.items ≡ into.old.items ++ bytes) × (length bytes ≤ most) × (I.left i.new ≡ Some []))) }
-    ensures too_large { result ≡ Err ReadErr.TooLarge → ForSome (I.left i.old) (λ bytes. most < length bytes) }
+    ensures all { OnOk result (ForSome (I.left i.old) (λ bytes.
+        (into.new.items ≡ into.old.items ++ bytes)
+        × (length bytes ≤ most)
+        × (I.left i.new ≡ Some []))) }
+    ensures too_large { result ≡ Err ReadErr.TooLarge
+        → ForSome (I.left i.old) (λ bytes. most < length bytes) }
 {
     let mut buffer = zeros(alloc, BUFFER)?;
     let len = into.len();
@@ -90,7 +95,8 @@ fn append_pieces<I: Source>(
         × PullsWithin result most (length pulled)
         × OnOk result (into.new.items ≡ into.old.items ++ pulled) }
     ensures end { OnOk result (IsAtEnd (I.left i.new)) }
-    ensures err { OnErr result (take (length into.old.items) into.new.items ≡ into.old.items) }
+    ensures err { OnErr result
+        (take (length into.old.items) into.new.items ≡ into.old.items) }
     ensures counted { CountsFault result (I.faults i.old) (I.faults i.new) }
 {
     let mut room = most;
@@ -103,8 +109,8 @@ fn append_pieces<I: Source>(
     }
 }
 
-// PullsWithin once, at most one byte more than the room, and appends what came. It answers how many bytes these are, 0 at the
-// end.
+// Pulls once, at most one byte more than the room, and appends what came. It answers how many bytes
+// these are: 0 at the end.
 fn append_piece<I: Source>(
     i: &mut I,
     buffer: &mut [u8],
@@ -115,7 +121,8 @@ fn append_piece<I: Source>(
     ensures pulled { (pulled : List ℕ)
         × Taken (I.left i.old) pulled (I.left i.new)
         × PullsWithin result room (length pulled)
-        × IfOk result (λ count. (length pulled ≡ count) × (into.new.items ≡ into.old.items ++ pulled)) }
+        × IfOk result (λ count.
+        (length pulled ≡ count) × (into.new.items ≡ into.old.items ++ pulled)) }
     ensures end { IfOk result (λ count. count ≡ 0 → IsAtEnd (I.left i.new)) }
     ensures err { OnErr result (into.new.items ≡ into.old.items) }
     ensures counted { CountsFault result (I.faults i.old) (I.faults i.new) }

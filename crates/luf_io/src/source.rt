@@ -1,5 +1,6 @@
 //! Where bytes come from.
-ghost use Rattle.std.specs.Prelude.{◌≡◌, ◌↔◌, ℕ, ◌<◌, ◌≤◌, min, List, [], ◌++◌, length, take, drop, Contains, Option, IfOk, IsErr, OnOk, OnErr};
+ghost use Rattle.std.specs.Prelude.{◌≡◌, ◌↔◌, ℕ, ◌<◌, ◌≤◌, min, List, [], ◌++◌, length, take, drop};
+ghost use Rattle.std.specs.Prelude.{Contains, Option, IfOk, IsErr, OnOk, OnErr};
 ghost use Rattle.luf_io.specs.Count.{Rose, next_count};
 ghost use Rattle.luf_io.specs.Source.{Taken, IsAtEnd};
 
@@ -18,7 +19,7 @@ pub trait Source {
     ///
     /// # Errors
     ///
-    /// `Failed`, at any time; nothing was taken then, and the count of faults rose.
+    /// `Failed`, at any time. Nothing was taken then, and the count of faults rose.
     fn pull(&mut self, into: &mut [u8]) -> Result<usize, Failed>
         requires { 0 < length into.old }
         ensures count { IfOk result (λ n. n ≤ length into.new) }
@@ -31,7 +32,7 @@ pub trait Source {
 
 /// A source over bytes in memory, which fails at the calls that it is told.
 ///
-/// Its calls of `pull` are counted from 1; both of its counts stand still at their last value.
+/// Its calls of `pull` are counted from 1. Both of its counts stand still at their last value.
 #[derive(Debug, Drop)]
 pub struct MemSource {
     bytes: Vec<u8>,
@@ -61,7 +62,8 @@ impl Model for MemSource {
 }
 
 impl MemSource {
-    /// A source of these bytes. One call gives at most `step` of them, and the calls whose numbers are in `fails` fail.
+    /// A source of these bytes. One call gives at most `step` of them, and the calls whose numbers
+    /// are in `fails` fail.
     pub fn new(bytes: Vec<u8>, step: usize, fails: Vec<u64>) -> MemSource
         requires { 0 < step }
         ensures { result
@@ -85,18 +87,22 @@ impl Source for MemSource {
 
     ghost left = { λ s. Some s.left };
 
-    /// Fails exactly at the calls that were listed. Any other call gives as much as the step, the buffer and the bytes
-    /// that are left allow.
+    /// Fails exactly at the calls that were listed. Any other call gives as much as the step, the
+    /// buffer and the bytes that are left allow.
     fn pull(&mut self, into: &mut [u8]) -> Result<usize, Failed>
         requires { 0 < length into.old }
         ensures listed { IsErr result ↔ Contains self.old.fails (next_count self.old.calls) }
-        ensures gives { IfOk result (λ n. n ≡ min self.old.step (min (length into.new) (length self.old.left))) }
+        ensures gives { IfOk result
+            (λ n. n ≡ min self.old.step (min (length into.new) (length self.old.left))) }
         ensures given { IfOk result (λ n. self.old.left ≡ take n into.new ++ self.new.left) }
         ensures end { IfOk result (λ n. n ≡ 0 → self.old.left ≡ []) }
         ensures after { IfOk result (λ n. self.new
             ≡ record self.old { left = drop n self.old.left; calls = next_count self.old.calls }) }
         ensures failed { OnErr result (self.new
-            ≡ record self.old { calls = next_count self.old.calls; faults = next_count self.old.faults }) }
+            ≡ record self.old {
+              calls = next_count self.old.calls;
+              faults = next_count self.old.faults;
+            }) }
         ensures rose { OnErr result (Rose self.old.faults self.new.faults) }
     {
         self.calls = self.calls.saturating_add(1);

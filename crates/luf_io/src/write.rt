@@ -22,8 +22,9 @@ pub enum WriteErr {
 pub fn write_all<O: Sink>(o: &mut O, bytes: &[u8]) -> Result<(), WriteErr>
     ensures ok { OnOk result (Appends (O.written o.old) bytes.now (O.written o.new)) }
     ensures calm { OnOk result (O.faults o.new ≡ O.faults o.old) }
-    ensures part { OnErr result
-        ((n : ℕ) × (n ≤ length bytes.now) × Appends (O.written o.old) (take n bytes.now) (O.written o.new)) }
+    ensures part { OnErr result ((n : ℕ)
+        × (n ≤ length bytes.now)
+        × Appends (O.written o.old) (take n bytes.now) (O.written o.new)) }
     ensures fault { OnErr result (Rose (O.faults o.old) (O.faults o.new)) }
 {
     let mut done = 0;

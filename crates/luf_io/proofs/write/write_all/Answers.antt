@@ -1,4 +1,4 @@
-use Rattle.std.proofs.Common.{◌≡◌, ◌≤◌, ◌-◌, length, drop, take, arith, length-drop, length-take, ◌∙◌}
+use Rattle.std.proofs.Common.{arith, length-drop, ◌∙◌}
 use Rattle.std.proofs.lemmas.List.{take_rest}
 use Rattle.luf_io.proofs.Pieces.{Appends-take}
 use Rattle.luf_io.proofs.write.write_all.Goals as goal
