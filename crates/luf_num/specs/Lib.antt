@@ -1,0 +1,3 @@
+-- Digits and numerals.
+pub mod Digit
+pub mod Numeral
