@@ -1,12 +1,11 @@
 -- The forms of numerals shut each other out.
-use Rattle.std.proofs.Common.{◌≡◌, ℕ, ◌+◌, ◌<◌, ◌≤◌, ◌%◌, ◌^◌, Bool, true, false, not, ◌&&◌, ◌||◌, ◌==◌, ◌⊎◌, List, [], ◌∷◌, ◌++◌, length, drop, codes, refl, sym, ap, ◌∙◌, subst, arith, inl, inr, ⊎_elim, length-append, append_assoc}
+use Rattle.std.proofs.Common.{◌≡◌, ℕ, Bool, true, false, not, ◌||◌, ◌==◌, ◌⊎◌, List, [], ◌∷◌, ◌++◌, length, take, drop, take-append-drop, codes, refl, sym, ap, ◌∙◌, subst, arith, ⊎_elim}
 use Rattle.std.specs.List.{list_all}
-use Rattle.std.specs.Int.{is_in_range}
-use Rattle.std.proofs.lemmas.Bool.{and_parts, and_from, both_ways, cases_Bool, or_cases, leb-true, eqb-true, lt-leb, ne_eqb}
+use Rattle.std.proofs.lemmas.Bool.{and_parts, and_from}
 use Rattle.std.proofs.lemmas.List.Folds.{list_all-append}
 use Rattle.std.proofs.lemmas.Bool.Decides.{nat_tests}
-use Rattle.luf_num.specs.Digit.{is_digit, is_hex_digit, value_in}
-use Rattle.luf_num.specs.Numeral.{IsDigits, IsHexPrefix, is_decimal_mark, is_binary_mark, IsOptionalSign, IsExponent, HasFloatForm, IsDecimalInteger, IsLargeInteger, IsHexInteger, IsDecimal, IsHexRest, IsHexadecimal, IsNumber}
+use Rattle.luf_num.specs.Digit.{is_digit, is_hex_digit}
+use Rattle.luf_num.specs.Numeral.{IsHexPrefix, is_decimal_mark, is_binary_mark, IsOptionalSign, IsExponent, HasFloatForm, IsDecimal, IsHexRest, IsHexadecimal, IsNumber}
 use Rattle.luf_num.specs.declared.Number.{Number}
 use Rattle.luf_num.specs.declared.Number.TheVariants.{Int, Float}
 
@@ -60,10 +59,10 @@ no_x_in_decimal s Float h = ⊎_elim
     (λ large. list_all-weaker is_digit is_no_x no_x_from_digit s large.digits.digits)
     (λ form.
     let digits = list_all_parts is_no_x form.whole form.fraction
-        (list_all-weaker is_digit is_no_x no_x_from_digit (form.whole ++ form.fraction) form.digits.digits) in
+    (list_all-weaker is_digit is_no_x no_x_from_digit (form.whole ++ form.fraction) form.digits.digits) in
     rw form.spelled (list_all_both is_no_x (form.whole ++ form.point ++ form.fraction) form.exponent
-      (list_all_both is_no_x (form.whole ++ form.point) form.fraction (list_all_both is_no_x form.whole form.point digits.0 (no_x_in_point form.point form.pointed)) digits.1)
-      (no_x_in_exponent form.exponent form.scaled))) h
+    (list_all_both is_no_x (form.whole ++ form.point) form.fraction (list_all_both is_no_x form.whole form.point digits.0 (no_x_in_point form.point form.pointed)) digits.1)
+    (no_x_in_exponent form.exponent form.scaled))) h
 
 -- one stands in a hexadecimal numeral
 pub x_in_hexadecimal : (s prefix rest : List ℕ) → s ≡ prefix ++ rest → IsHexPrefix prefix → list_all is_no_x s ≡ true → ⊥
@@ -120,5 +119,11 @@ pub number_once : (s : List ℕ) (m n : Number) → IsNumber s m → IsNumber s 
 number_once s m n hm hn = ⊎_elim
     (λ dm. ⊎_elim (λ dn. decimal_once s m n dm dn) (λ xn. absurd (decimal_or_hexadecimal s m n dm xn)) hn)
     (λ xm. ⊎_elim (λ dn. absurd (decimal_or_hexadecimal s n m dn xm))
-      (λ xn. let same : xm.rest ≡ xn.rest = sym (hex_rest s xm.prefix xm.rest xm.spelled xm.prefixed) ∙ hex_rest s xn.prefix xn.rest xn.spelled xn.prefixed in
-      hex_rest_once xn.rest m n (subst (λ rest. IsHexRest rest m) same xm.number) xn.number) hn) hm
+    (λ xn. let same : xm.rest ≡ xn.rest = sym (hex_rest s xm.prefix xm.rest xm.spelled xm.prefixed) ∙ hex_rest s xn.prefix xn.rest xn.spelled xn.prefixed in
+    hex_rest_once xn.rest m n (subst (λ rest. IsHexRest rest m) same xm.number) xn.number) hn) hm
+
+-- where the prefix stands and what follows it is no numeral, the whole is none
+pub none_behind_prefix : (s : List ℕ) → IsHexPrefix (take 2 s) → ((n : Number) → IsHexRest (drop 2 s) n → ⊥) → (n : Number) → IsNumber s n → ⊥
+none_behind_prefix s prefixed none n h = ⊎_elim
+    (λ dec. x_in_hexadecimal s (take 2 s) (drop 2 s) (sym (take-append-drop 2 s)) prefixed (no_x_in_decimal s n dec))
+    (λ hex. none n (subst (λ rest. IsHexRest rest n) (sym (hex_rest s hex.prefix hex.rest hex.spelled hex.prefixed)) hex.number)) h
