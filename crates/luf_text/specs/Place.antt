@@ -25,14 +25,18 @@ line_starts_from at (a ∷ b ∷ rest) =
 abbrev pub line_starts : List ℕ → List ℕ
 line_starts text = line_starts_from 0 text
 
+-- those of some places in order that are `at` at most
+abbrev pub begun_by : ℕ → List ℕ → List ℕ
+begun_by at starts = filter (λ start. nat_le start at) starts
+
 -- the last of a list of numbers, or `none` where it has none
 abbrev pub last_or : ℕ → List ℕ → ℕ
 last_or none [] = none
 last_or none (x ∷ xs) = last_or x xs
 
--- The place of byte `at`: its line is 1 more than the lines that begin after a line end at or before it, and its
--- column counts from 1 at the last of these beginnings, or at the text's (our own rule).
+-- The place of byte `at`: its line is 1 more than the lines that have begun after a line end by then, and its column
+-- counts from 1 at the beginning of the last of these lines, or of the text (our own rule).
 abbrev pub place_in : List ℕ → ℕ → Place
 place_in text at =
-    let begun = filter (λ start. nat_le start at) (line_starts text) in
+    let begun = begun_by at (line_starts text) in
     record { line = 1 + length begun; column = 1 + at - last_or 0 begun }

@@ -3,6 +3,8 @@
 
 mod bytes;
 mod place;
+#[cfg(test)]
+mod tests;
 
 pub use bytes::Bytes;
 pub use luf_memory::Memory;
