@@ -1,11 +1,11 @@
 -- The forms of numerals shut each other out.
-use Rattle.std.proofs.Common.{◌≡◌, ℕ, Bool, true, false, not, ◌||◌, ◌==◌, ◌⊎◌, List, [], ◌∷◌, ◌++◌, length, take, drop, take-append-drop, codes, refl, sym, ap, ◌∙◌, subst, arith, ⊎_elim}
+use Rattle.std.proofs.Common.{inl, inr, Option, None, Some, IsSome, IfSome, IfNone, ◌↔◌, ◌≡◌, ℕ, Bool, true, false, not, ◌||◌, ◌==◌, ◌⊎◌, List, [], ◌∷◌, ◌++◌, length, take, drop, take-append-drop, codes, refl, sym, ap, ◌∙◌, subst, arith, ⊎_elim}
 use Rattle.std.specs.List.{list_all}
 use Rattle.std.proofs.lemmas.Bool.{and_parts, and_from}
 use Rattle.std.proofs.lemmas.List.Folds.{list_all-append}
 use Rattle.std.proofs.lemmas.Bool.Decides.{nat_tests}
 use Rattle.luf_num.specs.Digit.{is_digit, is_hex_digit}
-use Rattle.luf_num.specs.Numeral.{IsHexPrefix, is_decimal_mark, is_binary_mark, IsOptionalSign, IsExponent, HasFloatForm, IsDecimal, IsHexRest, IsHexadecimal, IsNumber}
+use Rattle.luf_num.specs.Numeral.{IsHexPrefix, is_decimal_mark, is_binary_mark, IsOptionalSign, IsExponent, HasFloatForm, IsDecimal, IsHexRest, IsHexadecimal, IsNumber, HasNumeralForm}
 use Rattle.luf_num.specs.declared.Number.{Number}
 use Rattle.luf_num.specs.declared.Number.TheVariants.{Int, Float}
 
@@ -83,6 +83,11 @@ no_exponent_in_digits digit mark no_mark s all scaled = ⊎_elim (λ e. e)
     (λ e. let parts = and_parts (digit e.letter) (list_all digit (e.sign ++ e.digits)) (rw e.spelled at all) in
     let no = no_mark e.letter e.marked in cc) scaled
 
+-- the prefix is the first two bytes
+prefix_taken : (s prefix rest : List ℕ) → s ≡ prefix ++ rest → IsHexPrefix prefix → IsHexPrefix (take 2 s)
+prefix_taken s prefix rest spelled prefixed = ⊎_elim
+    (λ e. inl (rw spelled (rw e refl))) (λ e. inr (rw spelled (rw e refl))) prefixed
+
 -- digits have no point and no exponent
 pub no_float_in_digits : (digit mark : ℕ → Bool) → digit 46 ≡ false → ((x : ℕ) → mark x ≡ true → digit x ≡ false) → (s : List ℕ) → list_all digit s ≡ true → HasFloatForm digit mark s → ⊥
 no_float_in_digits digit mark no_point no_mark s all form =
@@ -127,3 +132,22 @@ pub none_behind_prefix : (s : List ℕ) → IsHexPrefix (take 2 s) → ((n : Num
 none_behind_prefix s prefixed none n h = ⊎_elim
     (λ dec. x_in_hexadecimal s (take 2 s) (drop 2 s) (sym (take-append-drop 2 s)) prefixed (no_x_in_decimal s n dec))
     (λ hex. none n (subst (λ rest. IsHexRest rest n) (sym (hex_rest s hex.prefix hex.rest hex.spelled hex.prefixed)) hex.number)) h
+
+-- an answer for what follows the prefix answers for the whole
+pub form_behind_prefix : (s : List ℕ) (o : Option Number) → IsHexPrefix (take 2 s) → IfSome o (λ n. IsHexRest (drop 2 s) n)
+    → IfNone o ((n : Number) → IsHexRest (drop 2 s) n → ⊥) → IsSome o ↔ HasNumeralForm s
+form_behind_prefix s None prefixed some none = (λ no. cc, λ form. absurd (none_behind_prefix s prefixed none form.0 form.1))
+form_behind_prefix s (Some n) prefixed some none = (
+  λ is_some. (n, inr (record { prefix = take 2 s; rest = drop 2 s; spelled = sym (take-append-drop 2 s); prefixed = prefixed; number = some })),
+  λ form. refl,
+)
+
+-- an answer for a decimal numeral, where no prefix stands
+pub form_without_prefix : (s : List ℕ) (o : Option Number) → (IsHexPrefix (take 2 s) → ⊥) → IfSome o (λ n. IsDecimal s n)
+    → IfNone o ((n : Number) → IsDecimal s n → ⊥) → IsSome o ↔ HasNumeralForm s
+form_without_prefix s None bare some none = (
+  λ no. cc,
+  λ form. ⊎_elim (λ dec. absurd (none form.0 dec))
+      (λ hex. absurd (bare (prefix_taken s hex.prefix hex.rest hex.spelled hex.prefixed))) form.1,
+)
+form_without_prefix s (Some n) bare some none = (λ is_some. (n, inl some), λ form. refl)

@@ -1,8 +1,8 @@
 //! Numerals of Lua 5.4: whether a spelling has numeral form, and the number that it stands for.
 #![tactic(auto)]
 
-ghost use Rattle.std.specs.Prelude.{◌≡◌, ℕ, List, IfSome, IfNone, IsTrue, ◌↔◌, take};
-ghost use Rattle.luf_num.specs.Numeral.{IsDecimal, IsHexPrefix, IsHexRest, IsNumber};
+ghost use Rattle.std.specs.Prelude.{◌≡◌, ℕ, List, IfSome, IfNone, IsSome, IsTrue, ◌↔◌, take};
+ghost use Rattle.luf_num.specs.Numeral.{HasNumeralForm, IsDecimal, IsHexPrefix, IsHexRest, IsNumber};
 
 mod form;
 #[cfg(test)]
@@ -23,6 +23,7 @@ pub enum Number {
 ///
 /// A decimal integer of 2^63 or more is a float. A hexadecimal integer wraps modulo 2^64.
 pub fn number_of(spelling: &[u8]) -> Option<Number>
+    ensures form { IsSome result ↔ HasNumeralForm spelling.now }
     ensures some { IfSome result (λ n. IsNumber spelling.now n) }
     ensures none { IfNone result ((n : Number) → IsNumber spelling.now n → ⊥) }
 {

@@ -3,7 +3,7 @@ use crate::{Number, number_of};
 /// Each spelling with its number, by the forms of the Lua 5.4 manual, 3.1.
 #[test]
 fn reads_numerals(rt: HostRuntime) {
-    let table: [(&[u8], Option<Number>); 27] = [
+    let table: [(&[u8], Option<Number>); 28] = [
         (b"0", Some(Number::Int(0))),
         (b"9223372036854775807", Some(Number::Int(i64::MAX))),
         (b"9223372036854775808", Some(Number::Float)),
@@ -31,6 +31,7 @@ fn reads_numerals(rt: HostRuntime) {
         (b"0x1e+1", None),
         (b"0x1P+9", Some(Number::Float)),
         (b"00012", Some(Number::Int(12))),
+        (b"0XaBcDeF09", Some(Number::Int(0xabcdef09))),
     ];
     for (spelling, number) in table {
         assert_eq!(rt; number_of(spelling), number, "{spelling:?}");
