@@ -1,5 +1,5 @@
 -- Where the lines of a text begin, a stretch at a time.
-use Rattle.std.proofs.Common.{◌≡◌, ℕ, zero, suc, ◌+◌, ◌-◌, ◌<◌, ◌≤◌, Bool, true, false, cond, not, ◌&&◌, ◌||◌, ◌==◌, nat_le, ◌⊎◌, List, [], ◌∷◌, ◌++◌, length, drop, get_or, filter, refl, sym, ap, ◌∙◌, subst, arith, inl, inr, ⊎_elim, take, append-nil, drop-drop, length-drop, get_or-drop}
+use Rattle.std.proofs.Common.{◌≡◌, ℕ, zero, suc, ◌+◌, ◌-◌, ◌<◌, ◌≤◌, true, false, nat_le, List, [], ◌∷◌, ◌++◌, length, drop, get_or, refl, sym, ap, ◌∙◌, arith, ⊎_elim, take, append-nil, drop-drop, length-drop, get_or-drop}
 use Rattle.std.proofs.lemmas.List.{drop_more, drop_all, get_or-take, length-take-le}
 use Rattle.std.proofs.lemmas.Bool.{cases_Bool, cond-true, cond-false, lt-leb, le-leb, cases_lt, false_from_ne_true}
 use Rattle.memchr.specs.Find.{Nowhere, NoneBefore, Passes}
@@ -44,8 +44,8 @@ none_begun at from (a ∷ []) le = ⊎_elim
 none_begun at from (a ∷ b ∷ rest) le = ⊎_elim
     (λ pair. rw pair (none_first at (from + 2) (line_starts_from (from + 2) rest) (omega arith) (none_begun at (from + 2) rest (omega arith))))
     (λ single. rw single (⊎_elim
-      (λ one. rw one (none_first at (from + 1) (line_starts_from (from + 1) (b ∷ rest)) (omega arith) (none_begun at (from + 1) (b ∷ rest) (omega arith))))
-      (λ plain. rw plain (none_begun at (from + 1) (b ∷ rest) (omega arith))) (cases_Bool (is_break a)))) (cases_Bool (is_pair a b))
+    (λ one. rw one (none_first at (from + 1) (line_starts_from (from + 1) (b ∷ rest)) (omega arith) (none_begun at (from + 1) (b ∷ rest) (omega arith))))
+    (λ plain. rw plain (none_begun at (from + 1) (b ∷ rest) (omega arith))) (cases_Bool (is_break a)))) (cases_Bool (is_pair a b))
 
 -- the line end at an index of a text
 pub at_pair : (src : List ℕ) (first : ℕ) → first + 1 < length src → is_pair (get_or src first 0) (get_or src (first + 1) 0) ≡ true
@@ -53,7 +53,7 @@ pub at_pair : (src : List ℕ) (first : ℕ) → first + 1 < length src → is_p
 at_pair src first within pair =
     let next : first + 1 + 1 ≡ first + 2 = omega arith in
     let here : drop first src ≡ get_or src first 0 ∷ (get_or src (first + 1) 0 ∷ drop (first + 2) src) =
-        drop_more src first 0 (omega arith) ∙ ap (λ rest. get_or src first 0 ∷ rest) (drop_more src (first + 1) 0 within ∙ ap (λ n. get_or src (first + 1) 0 ∷ drop n src) next) in
+    drop_more src first 0 (omega arith) ∙ ap (λ rest. get_or src first 0 ∷ rest) (drop_more src (first + 1) 0 within ∙ ap (λ n. get_or src (first + 1) 0 ∷ drop n src) next) in
     rw here (past_pair first (get_or src first 0) (get_or src (first + 1) 0) (drop (first + 2) src) pair)
 
 pub at_single : (src : List ℕ) (first : ℕ) → first + 1 < length src → is_break (get_or src first 0) ≡ true
@@ -62,7 +62,7 @@ pub at_single : (src : List ℕ) (first : ℕ) → first + 1 < length src → is
 at_single src first within one single =
     let later = drop_more src (first + 1) 0 within in
     let here : drop first src ≡ get_or src first 0 ∷ (get_or src (first + 1) 0 ∷ drop (first + 1 + 1) src) =
-        drop_more src first 0 (omega arith) ∙ ap (λ rest. get_or src first 0 ∷ rest) later in
+    drop_more src first 0 (omega arith) ∙ ap (λ rest. get_or src first 0 ∷ rest) later in
     rw (here, later) (past_single first (get_or src first 0) (get_or src (first + 1) 0) (drop (first + 1 + 1) src) one single)
 
 pub at_last : (src : List ℕ) (first : ℕ) → first + 1 ≡ length src → is_break (get_or src first 0) ≡ true
@@ -124,7 +124,7 @@ module _ (src : List ℕ) (from at : ℕ) (order : from ≤ at) (within : at ≤
       → begun_by at (line_starts_from from (drop from src)) ≡ []
   none_begun_in nowhere =
       let all : line_starts_from from (drop from src) ≡ line_starts_from (from + (at - from)) (drop (from + (at - from)) src) =
-          past_stretch src from (at - from) (omega arith) (λ j below. no_break j (omega arith) (nowhere j (omega arith) (omega (arith, stretch_len)))) in
+      past_stretch src from (at - from) (omega arith) (λ j below. no_break j (omega arith) (nowhere j (omega arith) (omega (arith, stretch_len)))) in
       rw all (none_begun at (from + (at - from)) (drop (from + (at - from)) src) (omega arith))
 
 -- no line end goes across the cut between a and b: the byte before it and the byte after it are no pair
@@ -143,15 +143,15 @@ line_starts_from-append at (x ∷ []) (y ∷ b) apart = rw apart (⊎_elim (λ o
 line_starts_from-append at (x ∷ y ∷ a) b apart =
     let place : at + 1 + suc (length a) ≡ at + suc (suc (length a)) = omega arith in
     let later : line_starts_from (at + 1) (y ∷ (a ++ b)) ≡ line_starts_from (at + 1) (y ∷ a) ++ line_starts_from (at + suc (suc (length a))) b =
-        line_starts_from-append (at + 1) (y ∷ a) b apart ∙ ap (λ n. line_starts_from (at + 1) (y ∷ a) ++ line_starts_from n b) place in
+    line_starts_from-append (at + 1) (y ∷ a) b apart ∙ ap (λ n. line_starts_from (at + 1) (y ∷ a) ++ line_starts_from n b) place in
     ⊎_elim
     (λ pair.
     let after : line_starts_from (at + 2) (a ++ b) ≡ line_starts_from (at + 2) a ++ line_starts_from (at + suc (suc (length a))) b =
-        line_starts_from-append (at + 2) a b (apart_after y a b apart) ∙ ap (λ n. line_starts_from (at + 2) a ++ line_starts_from n b) (omega arith) in
+    line_starts_from-append (at + 2) a b (apart_after y a b apart) ∙ ap (λ n. line_starts_from (at + 2) a ++ line_starts_from n b) (omega arith) in
     rw pair (ap (λ starts. (at + 2) ∷ starts) after))
     (λ single. rw single (⊎_elim
-      (λ one. rw one (ap (λ starts. (at + 1) ∷ starts) later))
-      (λ plain. rw plain later) (cases_Bool (is_break x)))) (cases_Bool (is_pair x y))
+    (λ one. rw one (ap (λ starts. (at + 1) ∷ starts) later))
+    (λ plain. rw plain later) (cases_Bool (is_break x)))) (cases_Bool (is_pair x y))
 
 -- a text's first byte is on line 1, in column 1
 pub place_in-zero : (src : List ℕ) → place_in src 0 ≡ record { line = 1; column = 1 }
@@ -176,10 +176,10 @@ length-begun_by-le at from (a ∷ []) le = ⊎_elim
 length-begun_by-le at from (a ∷ b ∷ rest) le = ⊎_elim
     (λ pair. rw pair (counted_first at from (from + 2) rest (omega arith) le (length-begun_by-le at (from + 2) rest)))
     (λ single. rw single (⊎_elim
-      (λ one. rw one (counted_first at from (from + 1) (b ∷ rest) (omega arith) le (length-begun_by-le at (from + 1) (b ∷ rest))))
-      (λ plain. rw plain (⊎_elim
-        (λ after. rw (none_begun at (from + 1) (b ∷ rest) (omega arith)) (omega arith))
-        (λ begun. omega (arith, length-begun_by-le at (from + 1) (b ∷ rest) begun)) (cases_lt at (from + 1)))) (cases_Bool (is_break a)))) (cases_Bool (is_pair a b))
+    (λ one. rw one (counted_first at from (from + 1) (b ∷ rest) (omega arith) le (length-begun_by-le at (from + 1) (b ∷ rest))))
+    (λ plain. rw plain (⊎_elim
+    (λ after. rw (none_begun at (from + 1) (b ∷ rest) (omega arith)) (omega arith))
+    (λ begun. omega (arith, length-begun_by-le at (from + 1) (b ∷ rest) begun)) (cases_lt at (from + 1)))) (cases_Bool (is_break a)))) (cases_Bool (is_pair a b))
 
 -- a line's number is at most 1 more than the bytes before it
 pub place_in-line-le : (src : List ℕ) (at : ℕ) → (place_in src at).line ≤ at + 1

@@ -22,6 +22,7 @@ fn counts_lines_and_columns(rt: HostRuntime) {
         (15, 7, 2),
     ];
     for (at, line, column) in table {
+        assert!(rt; at <= 15);
         assert_eq!(rt; place_of(text, at), Place { line, column }, "at {at}");
     }
     assert_eq!(rt; place_of(b"\r\n", 1), Place { line: 1, column: 2 });

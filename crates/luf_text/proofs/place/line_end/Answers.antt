@@ -10,7 +10,7 @@ returns-then-is_pair-clause-next c =
 
 pub returns-else-first-src-clause-next : goal.returns-else-first-src-clause-next
 returns-else-first-src-clause-next c = elim c.else-first-src.branch [
-    else-first-src-via-then-first-src+else-is_pair w ↦
+  | else-first-src-via-then-first-src+else-is_pair w ↦
       at_single c.args.src.now c.args.first (omega arith) c.requires.at_break (sym w.is_pair.ensures ∙ w.if-is_pair.false)
   | else-first-src-via-else-first-src w ↦ at_last c.args.src.now c.args.first (omega arith) c.requires.at_break
-  ]
+]
