@@ -1,4 +1,4 @@
--- Bytes that are digits, and what they stand for.
+-- Bytes that are digits (Lua 5.4 manual, 3.1), and what they stand for.
 use Rattle.std.specs.Prelude.{ℕ, ◌+◌, ◌*◌, Bool, ◌||◌, List, fold}
 use Rattle.std.specs.Int.{is_in_range}
 use Rattle.std.specs.Char.{digit_value}

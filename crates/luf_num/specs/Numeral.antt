@@ -1,4 +1,5 @@
--- Numerals, after the Lua 5.4 manual, 3.1, and the number that each stands for.
+-- Numerals, after the Lua 5.4 manual, 3.1, and the number that each stands for. One with a point or an exponent is a float.
+-- Of the others, a hexadecimal one is an integer, which wraps, and a decimal one an integer where it fits, and else a float.
 use Rattle.std.specs.Prelude.{◌≡◌, ℕ, ℤ, pos, ◌%◌, ◌^◌, ◌<◌, ◌≤◌, Bool, ◌||◌, ◌==◌, ◌⊎◌, List, [], ◌∷◌, ◌++◌, length, IsTrue, codes}
 use Rattle.std.specs.Int.{cast_signed, w64}
 use Rattle.std.specs.List.{list_all}
@@ -26,7 +27,7 @@ is_binary_mark byte = byte == 112 || byte == 80
 abbrev pub IsOptionalSign : List ℕ → Type 0
 IsOptionalSign s = (s ≡ []) ⊎ (s ≡ codes "+") ⊎ (s ≡ codes "-")
 
--- an exponent: its mark, an optional sign and decimal digits
+-- an exponent: its mark, an optional sign and decimal digits, in both bases
 pub record IsExponent (mark : ℕ → Bool) (s : List ℕ) : Type 0 where
   pub letter : ℕ
   pub sign : List ℕ
