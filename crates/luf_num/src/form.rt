@@ -1,0 +1,129 @@
+//! Whether a spelling has the form of a numeral in a base.
+ghost use Rattle.std.specs.Prelude.{◌≡◌, ◌↔◌, ◌⊎◌, ◌<◌, ◌≤◌, [], ◌∷◌, ◌++◌, length, take, drop, IsTrue};
+ghost use Rattle.std.specs.List.{list_all, prefix_len};
+ghost use Rattle.luf_num.specs.Base.{is_digit_in, is_mark_in};
+ghost use Rattle.luf_num.specs.Digit.{is_digit};
+ghost use Rattle.luf_num.specs.Numeral.{IsDigits, IsExponent, HasFloatForm};
+ghost use Rattle.luf_num.specs.Parts.{SplitsWhile, SplitsFirst, is_point, is_sign};
+
+/// The base of a numeral's digits. It also says which letter marks the exponent.
+#[derive(Clone, Copy)]
+pub enum Base {
+    Decimal,
+    Hexadecimal,
+}
+
+impl Base {
+    /// Whether the byte is a digit of the base.
+    pub fn is_digit(self, byte: u8) -> bool
+        ensures { result ≡ is_digit_in self byte }
+    {
+        match self {
+            Base::Decimal => byte.is_ascii_digit(),
+            Base::Hexadecimal => byte.is_ascii_hexdigit(),
+        }
+    }
+
+    /// Whether the byte marks an exponent: `e` in decimal numerals, `p` in hexadecimal ones, in either case.
+    pub fn is_mark(self, byte: u8) -> bool
+        ensures { result ≡ is_mark_in self byte }
+    {
+        match self {
+            Base::Decimal => byte == b'e' || byte == b'E',
+            Base::Hexadecimal => byte == b'p' || byte == b'P',
+        }
+    }
+}
+
+/// Whether each of the bytes is a digit of the base.
+fn are_digits(base: Base, bytes: &[u8]) -> bool
+    ensures { result ≡ list_all (is_digit_in base) bytes.now }
+{
+    bytes.iter().all(|byte| base.is_digit(*byte))
+}
+
+/// Whether the bytes are digits of the base, at least one.
+pub fn is_digits(base: Base, bytes: &[u8]) -> bool
+    ensures { IsTrue result ↔ IsDigits (is_digit_in base) bytes.now }
+{
+    !bytes.is_empty() && are_digits(base, bytes)
+}
+
+/// How many digits of the base the bytes begin with.
+fn digits_len(base: Base, bytes: &[u8]) -> usize
+    ensures within { result ≤ length bytes.now }
+    ensures len { result ≡ prefix_len (is_digit_in base) bytes.now }
+{
+    bytes
+        .iter()
+        .take_while(|byte| base.is_digit(**byte))
+        .count()
+}
+
+/// The digits that the bytes begin with, and the bytes after them.
+fn split_digits(base: Base, bytes: &[u8]) -> (&[u8], &[u8])
+    ensures { SplitsWhile (is_digit_in base) bytes.now result.0.now result.1.now }
+{
+    let len = digits_len(base, bytes);
+    bytes.split_at(len)
+}
+
+/// The point that the bytes begin with, if one stands there, and the bytes after it.
+fn split_point(bytes: &[u8]) -> (&[u8], &[u8])
+    ensures { SplitsFirst is_point bytes.now result.0.now result.1.now }
+{
+    match bytes.first() {
+        Some(b'.') => bytes.split_at(1),
+        _ => bytes.split_at(0),
+    }
+}
+
+/// The sign that the bytes begin with, if one stands there, and the bytes after it.
+fn split_sign(bytes: &[u8]) -> (&[u8], &[u8])
+    ensures { SplitsFirst is_sign bytes.now result.0.now result.1.now }
+{
+    match bytes.first() {
+        Some(b'+' | b'-') => bytes.split_at(1),
+        _ => bytes.split_at(0),
+    }
+}
+
+/// Whether the bytes are an exponent: a mark of the base, an optional sign, and decimal digits.
+fn is_exponent(base: Base, bytes: &[u8]) -> bool
+    ensures { IsTrue result ↔ IsExponent (is_mark_in base) bytes.now }
+{
+    match bytes.split_first() {
+        Some((letter, scale)) => {
+            let (_, digits) = split_sign(scale);
+            base.is_mark(*letter) && is_digits(Base::Decimal, digits)
+        }
+        None => false,
+    }
+}
+
+/// Whether the bytes are an exponent, or none are there.
+fn is_optional_exponent(base: Base, bytes: &[u8]) -> bool
+    ensures { IsTrue result ↔ ((bytes.now ≡ []) ⊎ IsExponent (is_mark_in base) bytes.now) }
+{
+    bytes.is_empty() || is_exponent(base, bytes)
+}
+
+/// Whether one of the two has a byte.
+fn has_byte(a: &[u8], b: &[u8]) -> bool
+    ensures { IsTrue result ↔ (0 < length (a.now ++ b.now)) }
+{
+    !a.is_empty() || !b.is_empty()
+}
+
+/// Whether the bytes are a numeral of the base with a point or an exponent.
+pub fn has_float_form(base: Base, bytes: &[u8]) -> bool
+    ensures { IsTrue result ↔ HasFloatForm (is_digit_in base) (is_mark_in base) bytes.now }
+{
+    let (whole, after_whole) = split_digits(base, bytes);
+    let (point, after_point) = split_point(after_whole);
+    let (fraction, exponent) = split_digits(base, after_point);
+    if !has_byte(whole, fraction) {
+        return false;
+    }
+    has_byte(point, exponent) && is_optional_exponent(base, exponent)
+}

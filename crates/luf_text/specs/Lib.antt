@@ -1,0 +1,2 @@
+-- Where the lines of a text begin, and the place of a byte.
+pub mod Place
