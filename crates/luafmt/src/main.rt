@@ -2,6 +2,7 @@
 //! a source from standard input and writes its minified text to standard output.
 #![tactic(auto)]
 
+mod answer;
 mod run;
 mod status;
 mod streams;

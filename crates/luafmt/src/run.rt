@@ -1,47 +1,17 @@
 //! The top call, from the words of a command to its status.
-ghost use Rattle.std.specs.Prelude.{◌≡◌, ◌≢◌, ◌↔◌, ◌⊎◌, ℕ, List, [], length, take, map, string_bytes};
-ghost use Rattle.std.specs.Prelude.{Some, IfOk, OnOk, OnErr, IsTrue};
+ghost use Rattle.std.specs.Prelude.{◌≡◌, ◌≢◌, ◌⊎◌, ℕ, List, take, map, string_bytes, Some, OnOk, OnErr};
 ghost use Rattle.luf_io.specs.Count.{Rose};
 ghost use Rattle.luf_io.specs.Sink.{Appends};
 ghost use Rattle.luf_work.specs.Minified.{IsAccepted, SameTokens};
-ghost use Rattle.luafmt.specs.Outcome.{Outcome, IsMinify, Gives, AreContents, IsOutcome, RanThrough};
+ghost use Rattle.luafmt.specs.Outcome.{Outcome, IsMinify, AreContents, IsOutcome, RanThrough};
 
+use crate::answer::{Answer, Halt, prepare};
 use crate::status::Status;
-use luf_io::{Files, ReadErr, Sink, Source, read_all, write_all};
-use luf_memory::Memory;
-use luf_work::{Refusal, minify_bytes};
+use luf_io::{Files, Sink, Source, WriteErr, write_all};
 use std::alloc::Global;
 
-// The most bytes that a source may have.
-const MOST: usize = 4194304;
-
-// What a run is to write, before any of it is written: its status, and what goes to out and to errs.
-#[derive(Drop)]
-struct Answer {
-    status: Status,
-    out: Vec<u8>,
-    errs: &'static [u8],
-}
-
-impl Answer {
-    // Nothing for out, and a line for errs.
-    fn refusal(alloc: Global, status: Status, line: &'static [u8]) -> Answer
-        ensures status { result.status ≡ status }
-        ensures out { result.out.items ≡ [] }
-        ensures errs { result.errs.now ≡ line.now }
-    {
-        Answer { status, out: Vec::new(alloc), errs: line }
-    }
-}
-
-// Why a run has no answer.
-enum Halt {
-    ReadFault,
-    NoMemory,
-}
-
-/// Runs the command that the words name: `minify`, the only one so far, writes the minified text of
-/// the input to `out`. Lines of refusals go to `errs`. No file is touched.
+/// Runs the command that the words name. So far that is `minify` alone, which writes the minified
+/// text of the input to `out`, or the line of its refusal to `errs`. No file is touched.
 pub fn run<F: Files, I: Source, O: Sink, E: Sink>(
     alloc: Global,
     words: &[String],
@@ -49,56 +19,74 @@ pub fn run<F: Files, I: Source, O: Sink, E: Sink>(
     input: &mut I,
     out: &mut O,
     errs: &mut E,
-) -> Status {
+) -> Status
+    // A run that nothing cut short has written its whole outcome.
+    ensures outcome { RanThrough result → (w : Outcome)
+        × IsOutcome (map string_bytes words.now) (I.left input.old) w
+        × (result ≡ w.status)
+        × Appends (O.written out.old) w.out (O.written out.new)
+        × Appends (E.written errs.old) w.errs (E.written errs.new) }
+
+    // What is written has the tokens of the source.
+    ensures text { result ≡ Status.Done → (contents : List ℕ) × (text : List ℕ)
+        × AreContents (I.left input.old) contents
+        × SameTokens contents text
+        × Appends (O.written out.old) text (O.written out.new) }
+
+    // The words alone decide on `Usage`.
+    ensures usage { result ≡ Status.Usage → ¬ IsMinify (map string_bytes words.now) }
+    ensures no_command { ¬ IsMinify (map string_bytes words.now)
+        → (result ≡ Status.Usage) ⊎ (result ≡ Status.WriteFault) }
+
+    // Each fault has its cause, and a count of faults stays at every other answer.
+    ensures read_fault { result ≡ Status.ReadFault → Rose (I.faults input.old) (I.faults input.new)
+        × IsMinify (map string_bytes words.now) }
+    ensures write_fault { result ≡ Status.WriteFault
+        → Rose (O.faults out.old) (O.faults out.new) ⊎ Rose (E.faults errs.old) (E.faults errs.new) }
+    ensures read_calm { result ≢ Status.ReadFault → I.faults input.new ≡ I.faults input.old }
+    ensures write_calm { result ≢ Status.WriteFault
+        → (O.faults out.new ≡ O.faults out.old) × (E.faults errs.new ≡ E.faults errs.old) }
+
+    // A run that was cut short has written nothing, or a part of its outcome.
+    ensures nothing { (result ≡ Status.ReadFault) ⊎ (result ≡ Status.NoMemory)
+        → (O.written out.new ≡ O.written out.old) × (E.written errs.new ≡ E.written errs.old) }
+    ensures part { result ≡ Status.WriteFault → (w : Outcome) × (n : ℕ) × (m : ℕ)
+        × IsOutcome (map string_bytes words.now) (I.left input.old) w
+        × Appends (O.written out.old) (take n w.out) (O.written out.new)
+        × Appends (E.written errs.old) (take m w.errs) (E.written errs.new) }
+
+    // Where all goes well, an accepted source is minified.
+    ensures complete { (contents : List ℕ) → I.left input.old ≡ Some contents
+        → IsAccepted contents → IsMinify (map string_bytes words.now)
+        → ¬ Rose (I.faults input.old) (I.faults input.new)
+        → ¬ Rose (O.faults out.old) (O.faults out.new)
+        → ¬ Rose (E.faults errs.old) (E.faults errs.new)
+        → (result ≡ Status.Done) ⊎ (result ≡ Status.NoMemory) }
+    ensures other { (result ≢ Status.Differs) × (result ≢ Status.Config) }
+    ensures files { files.new ≡ files.old }
+{
     match prepare(alloc, words, input) {
-        Ok(answer) => write(&answer, out, errs),
+        Ok(answer) => match write(&answer, out, errs) {
+            Ok(()) => answer.status,
+            Err(WriteErr::Fault) => Status::WriteFault,
+        },
         Err(Halt::ReadFault) => Status::ReadFault,
         Err(Halt::NoMemory) => Status::NoMemory,
     }
 }
 
-// The answer to these words, with the input read.
-fn prepare<I: Source>(alloc: Global, words: &[String], input: &mut I) -> Result<Answer, Halt> {
-    if !is_minify(words) {
-        return Ok(Answer::refusal(alloc, Status::Usage, b"luafmt: Usage\n"));
-    }
-    let mut source = Vec::new(alloc);
-    match read_all(alloc, input, MOST, &mut source) {
-        Ok(()) => match minified(alloc, &source) {
-            Ok(answer) => Ok(answer),
-            Err(Memory) => Err(Halt::NoMemory),
-        },
-        Err(ReadErr::TooLarge) => Ok(too_large(alloc)),
-        Err(ReadErr::Fault) => Err(Halt::ReadFault),
-        Err(ReadErr::Memory) => Err(Halt::NoMemory),
-    }
-}
-
-fn is_minify(words: &[String]) -> bool
-    ensures { IsTrue result ↔ IsMinify (map string_bytes words.now) }
+// Writes an answer whole.
+fn write<O: Sink, E: Sink>(answer: &Answer, out: &mut O, errs: &mut E) -> Result<(), WriteErr>
+    ensures out { OnOk result (Appends (O.written out.old) answer.now.out (O.written out.new)) }
+    ensures errs { OnOk result (Appends (E.written errs.old) answer.now.errs (E.written errs.new)) }
+    ensures calm { OnOk result
+        ((O.faults out.new ≡ O.faults out.old) × (E.faults errs.new ≡ E.faults errs.old)) }
+    ensures part { OnErr result ((n : ℕ) × (m : ℕ)
+        × Appends (O.written out.old) (take n answer.now.out) (O.written out.new)
+        × Appends (E.written errs.old) (take m answer.now.errs) (E.written errs.new)) }
+    ensures fault { OnErr result
+        (Rose (O.faults out.old) (O.faults out.new) ⊎ Rose (E.faults errs.old) (E.faults errs.new)) }
 {
-    words.len() == 1 && words[0].as_str() == "minify"
-}
-
-// The answer of `minify` to a source.
-fn minified(alloc: Global, source: &[u8]) -> Result<Answer, Memory> {
-    let mut out = Vec::new(alloc);
-    match minify_bytes(alloc, source, &mut out) {
-        Ok(()) => Ok(Answer { status: Status::Done, out, errs: b"" }),
-        Err(Refusal::TooLarge) => Ok(too_large(alloc)),
-        Err(Refusal::NotYet) => Ok(Answer::refusal(alloc, Status::Refused, b"-: NotYet\n")),
-        Err(Refusal::Memory) => Err(Memory),
-    }
-}
-
-fn too_large(alloc: Global) -> Answer {
-    Answer::refusal(alloc, Status::Refused, b"-: TooLarge\n")
-}
-
-// Writes an answer whole, and gives its status.
-fn write<O: Sink, E: Sink>(answer: &Answer, out: &mut O, errs: &mut E) -> Status {
-    if write_all(out, &answer.out).is_err() || write_all(errs, answer.errs).is_err() {
-        return Status::WriteFault;
-    }
-    answer.status
+    write_all(out, &answer.out)?;
+    write_all(errs, answer.errs)
 }
