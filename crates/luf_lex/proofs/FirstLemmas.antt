@@ -17,16 +17,16 @@ use Rattle.luf_lex.specs.declared.token.Kind.{Kind}
 use Rattle.luf_lex.specs.declared.token.Kind.TheVariants.{Token, Blank, LineEnd}
 
 -- bytes of one class are not of another
-blank_is_no_word : (b : ℕ) → is_blank b ≡ true → is_word_byte b ≡ true → ⊥
+pub blank_is_no_word : (b : ℕ) → is_blank b ≡ true → is_word_byte b ≡ true → ⊥
 blank_is_no_word b h w = grind (arith, nat_tests)
 
-letter_is_no_digit : (b : ℕ) → is_letter b ≡ true → is_digit b ≡ true → ⊥
+pub letter_is_no_digit : (b : ℕ) → is_letter b ≡ true → is_digit b ≡ true → ⊥
 letter_is_no_digit b h w = grind (arith, nat_tests)
 
-digit_is_word : (b : ℕ) → is_digit b ≡ true → is_word_byte b ≡ true
+pub digit_is_word : (b : ℕ) → is_digit b ≡ true → is_word_byte b ≡ true
 digit_is_word b h = grind (arith, nat_tests)
 
-letter_is_word : (b : ℕ) → is_letter b ≡ true → is_word_byte b ≡ true
+pub letter_is_word : (b : ℕ) → is_letter b ≡ true → is_word_byte b ≡ true
 letter_is_word b h = grind (arith, nat_tests)
 
 word_letters : (w : Keyword) → list_all is_letter (word_spelling w) ≡ true
@@ -69,26 +69,26 @@ all_weaker p q weaker (b ∷ text) h =
     let parts = and_parts (p b) (list_all p text) h in
     and_from (q b) (list_all q text) (weaker b parts.0) (all_weaker p q weaker text parts.1)
 
-begins_weaker : (p q : ℕ → Bool) → ((b : ℕ) → p b ≡ true → q b ≡ true) → (text : List ℕ) → begins p text ≡ true → begins q text ≡ true
+pub begins_weaker : (p q : ℕ → Bool) → ((b : ℕ) → p b ≡ true → q b ≡ true) → (text : List ℕ) → begins p text ≡ true → begins q text ≡ true
 begins_weaker p q weaker [] h = h
 begins_weaker p q weaker (b ∷ text) h = weaker b h
 
-begins_apart : (p q : ℕ → Bool) → ((b : ℕ) → p b ≡ true → q b ≡ true → ⊥) → (text : List ℕ) → begins p text ≡ true → begins q text ≡ true → ⊥
+pub begins_apart : (p q : ℕ → Bool) → ((b : ℕ) → p b ≡ true → q b ≡ true → ⊥) → (text : List ℕ) → begins p text ≡ true → begins q text ≡ true → ⊥
 begins_apart p q apart [] h g = cc
 begins_apart p q apart (b ∷ text) h g = apart b h g
 
 -- the byte that a line end begins with
-line_end_begins : (p : ℕ → Bool) (text : List ℕ) → p 10 ≡ false → p 13 ≡ false → IsLineEnd text → begins p text ≡ true → ⊥
+pub line_end_begins : (p : ℕ → Bool) (text : List ℕ) → p 10 ≡ false → p 13 ≡ false → IsLineEnd text → begins p text ≡ true → ⊥
 line_end_begins p text lf cr (inl e) g = false≢true (sym lf ∙ subst (λ t. begins p t ≡ true) e g)
 line_end_begins p text lf cr (inr (inl e)) g = false≢true (sym cr ∙ subst (λ t. begins p t ≡ true) e g)
 line_end_begins p text lf cr (inr (inr (inl e))) g = false≢true (sym lf ∙ subst (λ t. begins p t ≡ true) e g)
 line_end_begins p text lf cr (inr (inr (inr e))) g = false≢true (sym cr ∙ subst (λ t. begins p t ≡ true) e g)
 
-assign_begins : (p : ℕ → Bool) (text : List ℕ) → p 61 ≡ false → text ≡ 61 ∷ [] → begins p text ≡ true → ⊥
+pub assign_begins : (p : ℕ → Bool) (text : List ℕ) → p 61 ≡ false → text ≡ 61 ∷ [] → begins p text ≡ true → ⊥
 assign_begins p text h e g = false≢true (sym h ∙ subst (λ t. begins p t ≡ true) e g)
 
 -- a spelling of this kind begins with a letter
-spelled_letter : (p : ℕ → Bool) (text : List ℕ) (w : Keyword) → word_spelling w ≡ text → begins is_letter text ≡ true
+pub spelled_letter : (p : ℕ → Bool) (text : List ℕ) (w : Keyword) → word_spelling w ≡ text → begins is_letter text ≡ true
 spelled_letter p text w e = subst (λ t. begins is_letter t ≡ true) e (word_begins w)
 
 -- what is spelled with a letter or a digit first has no other bytes

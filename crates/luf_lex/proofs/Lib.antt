@@ -1,3 +1,4 @@
 pub mod FirstLemmas
 pub mod TokenLemmas
 pub mod CutLemmas
+pub mod OneCut

@@ -51,3 +51,8 @@ pub fn cut(alloc: Global, src: &[u8]) -> Result<Cut, LexErr>
     }
     Ok(Cut::from_parts(pieces, tokens))
 }
+
+/// A source has at most one cut.
+pub fn one_cut()
+    ensures { (source : List ℕ) (pieces others : List Piece) → IsCut source pieces → IsCut source others → pieces ≡ others }
+{}

@@ -8,6 +8,6 @@ mod pieces;
 mod token;
 mod word;
 
-pub use cutting::{LexErr, cut};
+pub use cutting::{LexErr, cut, one_cut};
 pub use pieces::Cut;
 pub use token::{Kind, Piece, Sign, Span, Tok, Word};

@@ -1,5 +1,5 @@
 -- The text of tokens.
-use Rattle.std.specs.Prelude.{ℕ, Bool, ◌&&◌, if◌then◌else◌, List, [], ◌∷◌, ◌++◌, reverse}
+use Rattle.std.specs.Prelude.{ℕ, ◌&&◌, if◌then◌else◌, List, [], ◌∷◌, ◌++◌, reverse}
 use Rattle.luf_lex.specs.Byte.{is_word_byte, begins}
 
 -- what stands between two tokens: one space where the bytes on both sides are letters, digits or `_`, else nothing

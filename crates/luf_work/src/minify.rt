@@ -25,7 +25,9 @@ pub fn minify_bytes(alloc: Global, src: &[u8], into: &mut Vec<u8>) -> Result<(),
         return Err(Refusal::TooLarge);
     }
     let pieces = cut(alloc, src)?;
-    small(alloc, src, &pieces)?;
+    if let Err(e) = small(alloc, src, &pieces) {
+        return Err(Refusal::from(e));
+    }
     let len = into.len();
     if let Err(e) = write_text(src, &pieces, into) {
         into.truncate(len);

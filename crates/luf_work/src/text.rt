@@ -1,9 +1,9 @@
 // The tokens of a cut, written with the fewest spaces.
-ghost use Rattle.std.specs.Prelude.{◌≡◌, ◌&&◌, ◌++◌, reverse, OnOk};
+ghost use Rattle.std.specs.Prelude.{◌≡◌, ◌&&◌, ◌++◌, length, take, reverse, OnOk, OnErr};
 ghost use Rattle.luf_lex.specs.Byte.{is_word_byte, begins};
 ghost use Rattle.luf_lex.specs.Cut.{IsCut};
 ghost use Rattle.luf_lex.specs.Tokens.{spellings_of};
-ghost use Rattle.luf_work.specs.Text.{text_of};
+ghost use Rattle.luf_work.specs.Text.{between, text_of};
 
 use luf_lex::Cut;
 use luf_memory::Memory;
@@ -24,18 +24,31 @@ fn is_word(b: u8) -> bool
     b.is_ascii_alphanumeric() || b == b'_'
 }
 
-/// Appends the tokens in order, with one space exactly where two would join.
+/// Appends a token, behind a space where it would join the one before.
+fn write_token(before: &[u8], spelling: &[u8], into: &mut Vec<u8>) -> Result<(), Memory>
+    ensures ok { OnOk result (into.new.items ≡ into.old.items ++ between before.now spelling.now ++ spelling.now) }
+    ensures err { OnErr result (take (length into.old.items) into.new.items ≡ into.old.items) }
+{
+    if joins(before, spelling) {
+        into.push(b' ')?;
+    }
+    into.extend_from_slice(spelling)?;
+    Ok(())
+}
+
+/// Appends the tokens in order, with one space exactly where two would join. What an error leaves begins with
+/// what was there.
 pub(crate) fn write_text(src: &[u8], cut: &Cut, into: &mut Vec<u8>) -> Result<(), Memory>
     requires { IsCut src.now cut.now }
-    ensures { OnOk result (into.new.items ≡ into.old.items ++ text_of (spellings_of src.now cut.now)) }
+    ensures ok { OnOk result (into.new.items ≡ into.old.items ++ text_of (spellings_of src.now cut.now)) }
+    ensures err { OnErr result (take (length into.old.items) into.new.items ≡ into.old.items) }
 {
     let mut before: &[u8] = &[];
     for n in 0..cut.tokens() {
         if let Some(spelling) = cut.spelling(src, n) {
-            if joins(before, spelling) {
-                into.push(b' ')?;
+            if let Err(e) = write_token(before, spelling, into) {
+                return Err(e);
             }
-            into.extend_from_slice(spelling)?;
             before = spelling;
         }
     }
