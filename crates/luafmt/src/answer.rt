@@ -83,7 +83,11 @@ fn minified(alloc: Global, source: &[u8]) -> Result<Answer, Memory>
 {
     let mut out = Vec::new(alloc);
     match minify_bytes(alloc, source, &mut out) {
-        Ok(()) => Ok(Answer { status: Status::Done, out, errs: b"" }),
+        Ok(()) => Ok(Answer {
+            status: Status::Done,
+            out,
+            errs: b"",
+        }),
         Err(Refusal::TooLarge) => Ok(too_large(alloc)),
         Err(Refusal::NotYet) => Ok(refusal(alloc, Status::Refused, b"-: NotYet\n")),
         Err(Refusal::Memory) => Err(Memory),
@@ -100,5 +104,9 @@ fn too_large(alloc: Global) -> Answer
 fn refusal(alloc: Global, status: Status, line: &'static [u8]) -> Answer
     ensures { result ≡ record { status = status; out = []; errs = line.now } }
 {
-    Answer { status, out: Vec::new(alloc), errs: line }
+    Answer {
+        status,
+        out: Vec::new(alloc),
+        errs: line,
+    }
 }

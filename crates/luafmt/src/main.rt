@@ -8,32 +8,35 @@ mod status;
 mod streams;
 
 use luf_io::NoFiles;
-use run::run as run_command;
 use status::Status;
+use std::alloc::AllocError;
 use std::env;
-use std::io::{ErrorKind, Result as IoResult};
+use std::io::ErrorKind;
 use std::process::ExitCode;
 use streams::{StreamSink, StreamSource};
 
 fn main(rt: HostRuntime) -> ExitCode {
     let status = match words(&rt) {
-        Ok(words) => {
-            let mut files = NoFiles::new();
-            let mut input = StreamSource::new(rt.stdin());
-            let mut out = StreamSink::new(rt.stdout());
-            let mut errs = StreamSink::new(rt.stderr());
-            run_command(rt.alloc(), &words, &mut files, &mut input, &mut out, &mut errs)
-        }
+        Ok(words) => run::run(
+            rt.alloc(),
+            &words,
+            &mut NoFiles::new(),
+            &mut StreamSource::new(rt.stdin()),
+            &mut StreamSink::new(rt.stdout()),
+            &mut StreamSink::new(rt.stderr()),
+        ),
         Err(_) => Status::NoMemory,
     };
     ExitCode::from(status.code())
 }
 
-// The words after the program's name.
-fn words(rt: &HostRuntime) -> IoResult<Vec<String>> {
-    let mut args = env::args(rt)?;
-    args.next();
-    Ok(args.collect(rt.alloc())?)
+// The words after the program's name. Where one is not UTF-8 there are none, which is no command.
+fn words(rt: &HostRuntime) -> Result<Vec<String>, AllocError> {
+    match env::args(rt) {
+        Ok(args) => args.skip(1).collect(rt.alloc()),
+        Err(e) if e.kind() == ErrorKind::OutOfMemory => Err(AllocError),
+        Err(_) => Ok(Vec::new(rt.alloc())),
+    }
 }
 
 #[cfg(test)]
