@@ -47,9 +47,11 @@ pub(crate) fn prepare<I: Source>(
         × AreContents (I.left input.old) contents × SameTokens contents a.out) }
     ensures calm { OnOk result (I.faults input.new ≡ I.faults input.old) }
 
-    // Nothing is read where the words are not `minify`, so nothing can fail.
+    // Where the words are not `minify` nothing is read, and so nothing fails.
     ensures err { OnErr result (IsMinify (map string_bytes words.now)) }
-    ensures read_fault { IsErrOf result Halt.ReadFault → Rose (I.faults input.old) (I.faults input.new) }
+    ensures unread { ¬ IsMinify (map string_bytes words.now) → input.new ≡ input.old }
+    ensures read_fault { IsErrOf result Halt.ReadFault
+        → Rose (I.faults input.old) (I.faults input.new) }
     ensures no_memory { IsErrOf result Halt.NoMemory → I.faults input.new ≡ I.faults input.old }
 {
     if !is_minify(words) {
@@ -78,7 +80,8 @@ fn is_minify(words: &[String]) -> bool
 
 // The answer of `minify` to a source.
 fn minified(alloc: Global, source: &[u8]) -> Result<Answer, Memory>
-    ensures gives { IfOk result (λ a. (words : List (List ℕ)) → IsMinify words → Gives words source.now a) }
+    ensures gives { IfOk result (λ a.
+        (words : List (List ℕ)) → IsMinify words → Gives words source.now a) }
     ensures same_tokens { IfOk result (λ a. a.status ≡ Status.Done → SameTokens source.now a.out) }
 {
     let mut out = Vec::new(alloc);

@@ -10,8 +10,12 @@ use crate::status::Status;
 use luf_io::{Files, Sink, Source, WriteErr, write_all};
 use std::alloc::Global;
 
-/// Runs the command that the words name. So far that is `minify` alone, which writes the minified
-/// text of the input to `out`, or the line of its refusal to `errs`. No file is touched.
+/// Runs the command that the words after the program's name are. So far that is `minify` alone: it
+/// writes the minified text of the input to `out`, or the line of a refusal to `errs`. Nothing is
+/// written before the whole text is there. No file is touched.
+///
+/// A fault of `input` gives `ReadFault`, one of `out` or `errs` gives `WriteFault`, and want of
+/// memory gives `NoMemory`; none of these writes a line.
 pub fn run<F: Files, I: Source, O: Sink, E: Sink>(
     alloc: Global,
     words: &[String],
@@ -37,6 +41,7 @@ pub fn run<F: Files, I: Source, O: Sink, E: Sink>(
     ensures usage { result ≡ Status.Usage → ¬ IsMinify (map string_bytes words.now) }
     ensures no_command { ¬ IsMinify (map string_bytes words.now)
         → (result ≡ Status.Usage) ⊎ (result ≡ Status.WriteFault) }
+    ensures unread { ¬ IsMinify (map string_bytes words.now) → input.new ≡ input.old }
 
     // Each fault has its cause, and a count of faults stays at every other answer.
     ensures read_fault { result ≡ Status.ReadFault → Rose (I.faults input.old) (I.faults input.new)

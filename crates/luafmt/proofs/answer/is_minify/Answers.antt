@@ -1,4 +1,4 @@
-use Rattle.std.proofs.Common.{map, string_bytes, ap, ◌∙◌, sym, subst, nat_eq, codes, [], ◌∷◌, List, ℕ, ◌≡◌}
+use Rattle.std.proofs.Common.{map, string_bytes, ap, ◌∙◌, nat_eq, codes}
 use Rattle.std.specs.Cmp.Lexicographic.{pointwise}
 use Rattle.luafmt.proofs.Single.{one_of, one_text}
 use Rattle.luafmt.proofs.answer.is_minify.Goals as goal
