@@ -8,18 +8,18 @@ use Rattle.luf_str.specs.Pieces.{NoneAtFront, IsLineEnd}
 abbrev pub letter_value : ℕ → Option ℕ
 letter_value c = if c == 97 then Some 7 else (if c == 98 then Some 8 else (if c == 102 then Some 12 else (if c == 110 then Some 10 else (if c == 114 then Some 13 else (if c == 116 then Some 9 else (if c == 118 then Some 11 else (if c == 92 then Some 92 else (if c == 34 then Some 34 else (if c == 39 then Some 39 else None)))))))))
 
--- the k-th group of six bits, from the lowest, as a byte of UTF-8 behind the first
+-- a byte of UTF-8 behind the first: six bits of the code, those from the unit on
 abbrev pub continuation : ℕ → ℕ → ℕ
-continuation code k = 128 + code / 64 ^ k % 64
+continuation code unit = 128 + code / unit % 64
 
 -- UTF-8 of one to six bytes, for codes below 2 ^ 31
 abbrev pub utf8 : ℕ → List ℕ
 utf8 n = if nat_lt n 0x80 then n ∷ []
-  else (if nat_lt n 0x800 then (0xC0 + n / 64) ∷ continuation n 0 ∷ []
-  else (if nat_lt n 0x10000 then (0xE0 + n / 64 ^ 2) ∷ continuation n 1 ∷ continuation n 0 ∷ []
-  else (if nat_lt n 0x200000 then (0xF0 + n / 64 ^ 3) ∷ continuation n 2 ∷ continuation n 1 ∷ continuation n 0 ∷ []
-  else (if nat_lt n 0x4000000 then (0xF8 + n / 64 ^ 4) ∷ continuation n 3 ∷ continuation n 2 ∷ continuation n 1 ∷ continuation n 0 ∷ []
-  else (0xFC + n / 64 ^ 5) ∷ continuation n 4 ∷ continuation n 3 ∷ continuation n 2 ∷ continuation n 1 ∷ continuation n 0 ∷ []))))
+  else (if nat_lt n 0x800 then (0xC0 + n / 64) ∷ continuation n 1 ∷ []
+  else (if nat_lt n 0x10000 then (0xE0 + n / 64 ^ 2) ∷ continuation n 64 ∷ continuation n 1 ∷ []
+  else (if nat_lt n 0x200000 then (0xF0 + n / 64 ^ 3) ∷ continuation n (64 ^ 2) ∷ continuation n 64 ∷ continuation n 1 ∷ []
+  else (if nat_lt n 0x4000000 then (0xF8 + n / 64 ^ 4) ∷ continuation n (64 ^ 3) ∷ continuation n (64 ^ 2) ∷ continuation n 64 ∷ continuation n 1 ∷ []
+  else (0xFC + n / 64 ^ 5) ∷ continuation n (64 ^ 4) ∷ continuation n (64 ^ 3) ∷ continuation n (64 ^ 2) ∷ continuation n 64 ∷ continuation n 1 ∷ []))))
 
 -- The bytes behind the backslash of an escape, where next follows, and the bytes that the escape stands for.
 pub data IsEscape : List ℕ → List ℕ → List ℕ → Type 0 where

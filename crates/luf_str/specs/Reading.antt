@@ -17,11 +17,11 @@ abbrev pub line_end_length : List ℕ → ℕ
 line_end_length text = if is_line_byte (slice_index text 0) then (if is_line_pair (slice_index text 0) (slice_index text 1) then 2 else 1) else 0
 
 -- each of these: how many bytes the escape behind a backslash has, and its meaning
-abbrev pub hexadecimal_at : List ℕ → Option (ℕ × Meaning)
+unfoldable pub hexadecimal_at : List ℕ → Option (ℕ × Meaning)
 hexadecimal_at text = let high = slice_index text 1 in let low = slice_index text 2 in
   if is_hex_digit high && is_hex_digit low then Some (3, Byte (16 * hex_value high + hex_value low)) else None
 
-abbrev pub decimal_at : List ℕ → Option (ℕ × Meaning)
+unfoldable pub decimal_at : List ℕ → Option (ℕ × Meaning)
 decimal_at text = let first = slice_index text 0 - 48 in let second = slice_index text 1 - 48 in let third = slice_index text 2 - 48 in
   if is_digit (slice_index text 1)
   then (if is_digit (slice_index text 2)
@@ -29,12 +29,12 @@ decimal_at text = let first = slice_index text 0 - 48 in let second = slice_inde
     else Some (2, Byte (10 * first + second)))
   else Some (1, Byte first)
 
-abbrev pub code_at : List ℕ → Option (ℕ × Meaning)
+unfoldable pub code_at : List ℕ → Option (ℕ × Meaning)
 code_at text = let count = prefix_len is_hex_digit (drop 2 text) in let number = hex_number (take count (drop 2 text)) in
-  if slice_index text 1 == 123 && (nat_lt 0 count && (nat_lt number (2 ^ 31) && (slice_index text (2 + count) == 125)))
+  if slice_index text 1 == 123 && (nat_lt 0 count && (nat_lt number (2 ^ 31) && (slice_index (drop 2 text) count == 125)))
   then Some (3 + count, Code number) else None
 
-abbrev pub letter_at : List ℕ → Option (ℕ × Meaning)
+unfoldable pub letter_at : List ℕ → Option (ℕ × Meaning)
 letter_at text = option_map (λ b. (1, Byte b)) (letter_value (slice_index text 0))
 
 abbrev pub escape_at : List ℕ → Option (ℕ × Meaning)

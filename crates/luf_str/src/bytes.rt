@@ -1,6 +1,6 @@
 //! The kinds of bytes that strings tell apart. A text's end is read as byte 0, which is of no kind.
 
-ghost use Rattle.std.specs.Prelude.{◌≡◌, ◌^◌, ◌<◌, ◌≤◌, length, slice_index};
+ghost use Rattle.std.specs.Prelude.{◌≡◌, ◌<◌, ◌≤◌, length, take, drop, slice_index, IsTrue};
 ghost use Rattle.std.specs.List.{prefix_len, AllPass};
 ghost use Rattle.luf_str.specs.Bytes.{is_line_byte, is_space, is_digit, is_hex_digit, hex_value};
 ghost use Rattle.luf_str.specs.Reading.{line_end_length};
@@ -10,6 +10,14 @@ pub fn byte_at(text: &[u8], index: usize) -> u8
     ensures { result ≡ slice_index text.now index }
 {
     text.get(index).copied().unwrap_or(0)
+}
+
+/// The text from the index on.
+pub fn tail(text: &[u8], index: usize) -> &[u8]
+    requires { index ≤ length text.now }
+    ensures { result.now ≡ drop index text.now }
+{
+    &text[index..]
 }
 
 pub fn is_line_byte(b: u8) -> bool
@@ -37,7 +45,7 @@ pub fn is_hex_digit(b: u8) -> bool
 }
 
 pub fn hex_value(b: u8) -> u8
-    requires { is_hex_digit b ≡ true }
+    requires { IsTrue (is_hex_digit b) }
     ensures value { result ≡ hex_value b }
     ensures below { result < 16 }
 {
@@ -67,14 +75,17 @@ pub fn line_end_length(text: &[u8]) -> usize
 
 /// How many blanks and line ends stand at the front.
 pub fn leading_spaces(text: &[u8]) -> usize
-    ensures { result ≡ prefix_len is_space text.now }
+    ensures count { result ≡ prefix_len is_space text.now }
+    ensures bound { result ≤ length text.now }
 {
     text.iter().take_while(|b| is_space(**b)).count()
 }
 
 /// How many hexadecimal digits stand at the front.
 pub fn leading_hex_digits(text: &[u8]) -> usize
-    ensures { result ≡ prefix_len is_hex_digit text.now }
+    ensures count { result ≡ prefix_len is_hex_digit text.now }
+    ensures bound { result ≤ length text.now }
+    ensures all { AllPass is_hex_digit (take result text.now) }
 {
     text.iter().take_while(|b| is_hex_digit(**b)).count()
 }

@@ -1,0 +1,4 @@
+pub mod Numbers
+pub mod Leading
+pub mod EscapeLaws
+pub mod FrontLaws
