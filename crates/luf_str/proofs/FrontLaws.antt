@@ -23,14 +23,14 @@ pub plain_front : (q : ℕ) (text : List ℕ) (b : ℕ) → 0 < length text → 
 plain_front q [] b some e no_backslash no_quote no_line = absurd (omega arith)
 plain_front q (a ∷ text) b some e no_backslash no_quote no_line =
     let plain : is_plain q b ≡ true = grind (arith, nat_tests) in
-    subst (λ x. IsFront q (x ∷ text) (front.Part 1 (Byte b))) e (omega arith, rule.plain q b text plain)
+    subst (λ x. IsFront q (x ∷ text) (front.Part 1 (Byte b))) e (omega arith, omega arith, rule.plain q b text plain)
 
 pub escape_front : (q : ℕ) (text : List ℕ) (n : ℕ) (m : Meaning) → get_or text 0 0 ≡ 92 → escape_at (drop 1 text) ≡ Some (n, m) → IsFront q text (front.Part (1 + n) m)
 escape_front q [] n m is found = absurd (omega arith)
 escape_front q (a ∷ text) n m is found =
     let r = sound text n m found in
     let e : 1 + n ≡ suc n = omega arith in
-    subst (λ x. IsFront q (x ∷ text) (front.Part (1 + n) m)) (sym is) (rw e (omega arith, rule.escape q _ _ _ r.1))
+    subst (λ x. IsFront q (x ∷ text) (front.Part (1 + n) m)) (sym is) (rw e (omega arith, omega arith, rule.escape q _ _ _ r.1))
 
 pub lone_front : (q : ℕ) (text : List ℕ) → get_or text 0 0 ≡ 92 → length text ≡ 1 → IsFront q text front.LoneBackslash
 lone_front q [] is one = absurd (omega arith)

@@ -16,6 +16,13 @@ bytes_of Nothing = []
 abbrev pub line_end_length : List ℕ → ℕ
 line_end_length text = if is_line_byte (slice_index text 0) then (if is_line_pair (slice_index text 0) (slice_index text 1) then 2 else 1) else 0
 
+-- how many bytes the unit of a short string at the front has
+abbrev pub unit_length : List ℕ → ℕ
+unit_length text = if slice_index text 0 == 92
+  then (if slice_index text 1 == 122 then 2 + prefix_len is_space (drop 2 text)
+    else (if is_line_byte (slice_index text 1) then 1 + line_end_length (drop 1 text) else 2))
+  else 1
+
 -- each of these: how many bytes the escape behind a backslash has, and its meaning
 unfoldable pub hexadecimal_at : List ℕ → Option (ℕ × Meaning)
 hexadecimal_at text = let high = slice_index text 1 in let low = slice_index text 2 in

@@ -7,6 +7,8 @@
 mod bytes;
 mod escapes;
 mod fronts;
+mod values;
 
 pub use escapes::Meaning;
 pub use fronts::{Front, front_of};
+pub use values::{StrErr, first_bad, value_of};

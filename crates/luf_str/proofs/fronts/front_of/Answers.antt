@@ -9,7 +9,7 @@ read c = ap escape_at (sym c.tail.ensures) ∙ sym c.in-Some.ensures
 
 pub overflow_add-result : goal.overflow_add-result
 overflow_add-result c =
-    let within = (escape_front c.args.quote c.args.text.now _ _ c.if-first-ne92.false (read ((goal.at.overflow_add-result c).In-Some))).0 in omega arith
+    let within = (escape_front c.args.quote c.args.text.now _ _ c.if-first-ne92.false (read ((goal.at.overflow_add-result c).In-Some))).1 in omega arith
 
 pub returns-in-Some : goal.returns-in-Some
 returns-in-Some c = escape_front c.args.quote c.args.text.now _ _ c.if-first-ne92.false (read ((goal.at.returns-in-Some c).In-Some))
