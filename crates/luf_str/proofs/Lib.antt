@@ -5,3 +5,4 @@ pub mod FrontLaws
 pub mod InPlace
 pub mod UnitLaws
 pub mod PartLaws
+pub mod LongLaws

@@ -36,7 +36,7 @@ first_is : (line next : List ℕ) → IsLineEnd line next → is_line_byte (get_
 first_is [] next h = absurd h
 first_is (a ∷ line) next h = first_line_byte a line next h
 
-when_true : (b : Bool) (x y : ℕ) → b ≡ true → cond b x y ≡ x
+pub when_true : (b : Bool) (x y : ℕ) → b ≡ true → cond b x y ≡ x
 when_true b x y h = rw h refl
 
 pub unit_length-is : {q : ℕ} {unit next : List ℕ} → IsUnit q unit next → unit_length (unit ++ next) ≡ length unit

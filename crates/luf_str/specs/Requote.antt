@@ -1,7 +1,17 @@
 -- A short string in other quotes (our own rule).
-use Rattle.std.specs.Prelude.{◌≡◌, ◌⊎◌, ℕ, ◌==◌, List, [], ◌∷◌, ◌++◌, map, IsTrue, if◌then◌else◌}
+use Rattle.std.specs.Prelude.{◌≡◌, ◌⊎◌, ℕ, ◌-◌, ◌==◌, List, [], ◌∷◌, ◌++◌, map, length, take, drop, IsTrue, if◌then◌else◌}
+use Rattle.luf_str.specs.declared.quoting.Quote.{Quote}
+use Rattle.luf_str.specs.declared.quoting.Quote.TheVariants.{Single, Double}
 use Rattle.luf_str.specs.Bytes.{is_quote}
 use Rattle.luf_str.specs.Spelling.{joined, IsCut, IsLongSpelling}
+
+abbrev pub quote_byte : Quote → ℕ
+quote_byte Single = 39
+quote_byte Double = 34
+
+-- what stands between the quotes of a short string
+abbrev pub inside : List ℕ → List ℕ
+inside spelling = take (length spelling - 2) (drop 1 spelling)
 
 -- the other of the two quotes
 abbrev pub other_quote : ℕ → ℕ

@@ -44,10 +44,13 @@ abbrev pub IsDropped : List ℕ → List ℕ → Type 0
 IsDropped [] next = NoneAtFront is_line_byte next
 IsDropped line next = IsLineEnd line next
 
--- a long string: its body without a line end at the front
-abbrev pub IsLongValue : List ℕ → List ℕ → Type 0
-IsLongValue spelling value = (n : ℕ) × (dropped : List ℕ) × (parts : List Part) × IsLongOf n (dropped ++ spelling_of parts) spelling
+-- the body of a long string, without a line end at its front, and its value
+abbrev pub IsLongText : List ℕ → List ℕ → Type 0
+IsLongText body value = (dropped : List ℕ) × (parts : List Part) × (body ≡ dropped ++ spelling_of parts)
   × IsDropped dropped (spelling_of parts) × AreLongParts parts [] × (value ≡ meaning_of parts)
+
+abbrev pub IsLongValue : List ℕ → List ℕ → Type 0
+IsLongValue spelling value = (n : ℕ) × (body : List ℕ) × IsLongOf n body spelling × IsLongText body value
 
 abbrev pub IsValue : List ℕ → List ℕ → Type 0
 IsValue spelling value = IsShortValue spelling value ⊎ IsLongValue spelling value

@@ -1,6 +1,6 @@
 //! The kinds of bytes that strings tell apart. A text's end is read as byte 0, which is of no kind.
 
-ghost use Rattle.std.specs.Prelude.{◌≡◌, ◌<◌, ◌≤◌, length, take, drop, slice_index, IsTrue};
+ghost use Rattle.std.specs.Prelude.{◌≡◌, ◌==◌, ◌<◌, ◌≤◌, length, take, drop, slice_index, IsTrue};
 ghost use Rattle.std.specs.List.{prefix_len, AllPass};
 ghost use Rattle.luf_str.specs.Bytes.{is_line_byte, is_space, is_digit, is_hex_digit, hex_value};
 ghost use Rattle.luf_str.specs.Reading.{line_end_length};
@@ -18,6 +18,14 @@ pub fn tail(text: &[u8], index: usize) -> &[u8]
     ensures { result.now ≡ drop index text.now }
 {
     &text[index..]
+}
+
+/// The text up to the index.
+pub fn head(text: &[u8], index: usize) -> &[u8]
+    requires { index ≤ length text.now }
+    ensures { result.now ≡ take index text.now }
+{
+    &text[..index]
 }
 
 pub fn is_line_byte(b: u8) -> bool
@@ -60,7 +68,8 @@ pub fn hex_value(b: u8) -> u8
 
 /// How many bytes the line end at the front has: 0, 1 or 2.
 pub fn line_end_length(text: &[u8]) -> usize
-    ensures { result ≡ line_end_length text.now }
+    ensures value { result ≡ line_end_length text.now }
+    ensures bound { result ≤ length text.now }
 {
     let first = byte_at(text, 0);
     let second = byte_at(text, 1);
@@ -88,4 +97,11 @@ pub fn leading_hex_digits(text: &[u8]) -> usize
     ensures all { AllPass is_hex_digit (take result text.now) }
 {
     text.iter().take_while(|b| is_hex_digit(**b)).count()
+}
+
+/// How many `=` stand at the front.
+pub fn leading_equals(text: &[u8]) -> usize
+    ensures { result ≡ prefix_len (λ b. b == 61) text.now }
+{
+    text.iter().take_while(|b| **b == b'=').count()
 }

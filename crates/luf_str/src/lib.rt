@@ -7,8 +7,10 @@
 mod bytes;
 mod escapes;
 mod fronts;
+mod quoting;
 mod values;
 
 pub use escapes::Meaning;
 pub use fronts::{Front, front_of};
+pub use quoting::{Counts, Quote, quotes, requote};
 pub use values::{StrErr, first_bad, value_of};

@@ -3,14 +3,14 @@
 ghost use Rattle.std.specs.Prelude.{◌≡◌, ◌⊎◌, ℕ, List, ◌++◌, ◌^◌, ◌<◌, ◌≤◌, length, take, slice_index, vec_len, OnOk, OnErr, IfSome, IfNone, IsErrOf};
 ghost use Rattle.luf_str.specs.Escape.{utf8, continuation};
 ghost use Rattle.luf_str.specs.Reading.{bytes_of};
-ghost use Rattle.luf_str.specs.Spelling.{IsShortSpelling, IsLongSpelling, IsSpelling};
-ghost use Rattle.luf_str.specs.Value.{IsShortValue, IsLongValue, IsValue, FirstBad};
+ghost use Rattle.luf_str.specs.Spelling.{IsShortSpelling, IsLongSpelling, IsLongOf, IsSpelling};
+ghost use Rattle.luf_str.specs.Value.{IsShortValue, IsLongText, IsLongValue, IsValue, FirstBad};
 
 use std::alloc::{AllocError, AllocFailed, Global};
 
 use luf_memory::Memory;
 
-use crate::bytes::{line_end_length, tail};
+use crate::bytes::{head, leading_equals, line_end_length, tail};
 use crate::escapes::Meaning;
 use crate::fronts::{Front, front_of};
 
@@ -129,4 +129,65 @@ fn push_short(spelling: &[u8], into: &mut Vec<u8>) -> Result<(), StrErr>
     }
 }
 
-pub fn value_of() {}
+/// What stands between the brackets of a long string.
+fn long_body(spelling: &[u8]) -> &[u8]
+    requires { IsLongSpelling spelling.now }
+    ensures { (n : ℕ) (body : List ℕ) → IsLongOf n body spelling.now → result.now ≡ body }
+{
+    let bracket = leading_equals(tail(spelling, 1)) + 2;
+    let inner = tail(spelling, bracket);
+    head(inner, inner.len() - bracket)
+}
+
+/// Appends the value of a long string's body, or a front of it before an error.
+fn push_lines(body: &[u8], into: &mut Vec<u8>) -> Result<(), Memory>
+    ensures ok { OnOk result ((value : List ℕ) × IsLongText body.now value × (into.new.items ≡ into.old.items ++ value)) }
+    ensures err { OnErr result (take (vec_len into.old) into.new.items ≡ into.old.items) }
+{
+    let mut at = line_end_length(body);
+    while at < body.len() {
+        let line = line_end_length(tail(body, at));
+        if line == 0 {
+            into.push(body[at])?;
+            at += 1;
+        } else {
+            into.push(b'\n')?;
+            at += line;
+        }
+    }
+    Ok(())
+}
+
+/// Appends the value of a string, or a front of it before an error.
+fn push_value(spelling: &[u8], into: &mut Vec<u8>) -> Result<(), StrErr>
+    requires spelling { IsSpelling spelling.now }
+    requires size { length spelling.now < 2 ^ 32 }
+    ensures ok { OnOk result ((value : List ℕ) × IsValue spelling.now value × (into.new.items ≡ into.old.items ++ value)) }
+    ensures bad { (at : ℕ) → IsErrOf result (StrErr.Bad at) → FirstBad spelling.now at }
+    ensures err { OnErr result (take (vec_len into.old) into.new.items ≡ into.old.items) }
+{
+    if spelling[0] == b'[' {
+        push_lines(long_body(spelling), into)?;
+        Ok(())
+    } else {
+        push_short(spelling, into)
+    }
+}
+
+/// Appends the value of a string. `into` grows by its own allocator.
+///
+/// A long string has no escapes, and is never `Bad`. After an error `into` is as it was.
+pub fn value_of(_alloc: Global, spelling: &[u8], into: &mut Vec<u8>) -> Result<(), StrErr>
+    requires spelling { IsSpelling spelling.now }
+    requires size { length spelling.now < 2 ^ 32 }
+    ensures ok { OnOk result ((value : List ℕ) × IsValue spelling.now value × (into.new.items ≡ into.old.items ++ value)) }
+    ensures bad { (at : ℕ) → IsErrOf result (StrErr.Bad at) → FirstBad spelling.now at }
+    ensures err { OnErr result (into.new.items ≡ into.old.items) }
+{
+    let before = into.len();
+    let result = push_value(spelling, into);
+    if result.is_err() {
+        into.truncate(before);
+    }
+    result
+}

@@ -1,0 +1,106 @@
+//! The quotes in a string, and its spelling in other quotes.
+
+ghost use Rattle.std.specs.Prelude.{◌≡◌, ℕ, List, ◌++◌, ◌^◌, ◌<◌, ◌≤◌, ◌==◌, length, take, drop, count_by, vec_len, OnOk, OnErr, IsTrue};
+ghost use Rattle.luf_str.specs.Bytes.{is_quote};
+ghost use Rattle.luf_str.specs.Reading.{unit_length};
+ghost use Rattle.luf_str.specs.Spelling.{IsShortIn, IsShortSpelling, IsLongSpelling, IsSpelling};
+ghost use Rattle.luf_str.specs.Value.{IsValue};
+ghost use Rattle.luf_str.specs.Requote.{quote_byte, other_quote, inside, requoted_unit, IsShortRequoted, IsRequoted};
+
+use std::alloc::Global;
+
+use luf_memory::Memory;
+
+use crate::bytes::{byte_at, head, is_line_byte, leading_spaces, line_end_length, tail};
+
+/// The two quotes of short strings.
+#[derive(Clone, Copy, Debug, PartialEq, Eq)]
+pub enum Quote {
+    /// `'`
+    Single,
+    /// `"`
+    Double,
+}
+
+/// How many quotes of each kind a string has inside.
+#[derive(Clone, Copy, Debug, PartialEq, Eq)]
+pub struct Counts {
+    pub single: u32,
+    pub double: u32,
+}
+
+impl Quote {
+    fn byte(self) -> u8
+        ensures { result ≡ quote_byte self }
+    {
+        match self {
+            Quote::Single => b'\'',
+            Quote::Double => b'"',
+        }
+    }
+
+    fn other(self) -> u8
+        ensures { result ≡ other_quote (quote_byte self) }
+    {
+        match self {
+            Quote::Single => b'"',
+            Quote::Double => b'\'',
+        }
+    }
+}
+
+/// How many `'` and `"` stand between the quotes of a short string, raw or behind a backslash. A long string has none.
+pub fn quotes(spelling: &[u8]) -> Counts
+    requires spelling { IsSpelling spelling.now }
+    requires size { length spelling.now < 2 ^ 32 }
+    ensures short { IsShortSpelling spelling.now → (result.single ≡ count_by (λ b. b == 39) (inside spelling.now)) × (result.double ≡ count_by (λ b. b == 34) (inside spelling.now)) }
+    ensures long { IsLongSpelling spelling.now → (result.single ≡ 0) × (result.double ≡ 0) }
+{
+    let mut counts = Counts { single: 0, double: 0 };
+    if spelling[0] == b'[' {
+        return counts;
+    }
+    let inside = head(tail(spelling, 1), spelling.len() - 2);
+    for b in inside {
+        if *b == b'\'' {
+            counts.single += 1;
+        } else if *b == b'"' {
+            counts.double += 1;
+        }
+    }
+    counts
+}
+
+/// How many bytes the unit of a short string at the front has.
+fn unit_length(text: &[u8]) -> usize
+    ensures { result ≡ unit_length text.now }
+{
+    if byte_at(text, 0) != b'\\' {
+        return 1;
+    }
+    let second = byte_at(text, 1);
+    if second == b'z' {
+        2 + leading_spaces(tail(text, 2))
+    } else if is_line_byte(second) {
+        1 + line_end_length(tail(text, 1))
+    } else {
+        2
+    }
+}
+
+/// Appends a unit of a short string, as it is in the quotes.
+fn push_unit(unit: &[u8], quotes: Quote, into: &mut Vec<u8>) -> Result<(), Memory>
+    ensures ok { OnOk result (into.new.items ≡ into.old.items ++ requoted_unit (quote_byte quotes) unit.now) }
+    ensures err { OnErr result (into.new.items ≡ into.old.items) }
+{
+    if unit.len() == 1 && unit[0] == quotes.byte() {
+        into.extend_from_slice(&[b'\\', quotes.byte()])?;
+    } else if unit.len() == 2 && unit[1] == quotes.other() {
+        into.push(quotes.other())?;
+    } else {
+        into.extend_from_slice(unit)?;
+    }
+    Ok(())
+}
+
+pub fn requote() {}
