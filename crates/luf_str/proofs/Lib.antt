@@ -6,3 +6,5 @@ pub mod InPlace
 pub mod UnitLaws
 pub mod PartLaws
 pub mod LongLaws
+pub mod UnitReading
+pub mod Unique

@@ -3,7 +3,7 @@ use Rattle.std.proofs.Common.{◌≡◌, ◌≢◌, ℕ, suc, ◌+◌, ◌<◌, 
 use Rattle.std.specs.Prelude.{IsTrue, IsFalse}
 use Rattle.std.specs.List.{AllByRecursion, prefix_len, flat_map}
 use Rattle.std.proofs.lemmas.Bool.{eqb-true, false≢true}
-use Rattle.std.proofs.lemmas.List.{append-nil, take-append-drop}
+use Rattle.std.proofs.lemmas.List.{append-nil, length-append}
 use Rattle.std.proofs.lemmas.Bool.Decides.{nat_tests}
 use Rattle.luf_str.specs.Bytes.{is_line_byte, is_line_pair, is_space, is_quote, is_plain, is_digit, is_hex_digit}
 use Rattle.luf_str.specs.Pieces.{AllInPlace, NoneAtFront, IsLineEnd}
@@ -51,7 +51,10 @@ unit_length-is (unit_rule.other q b next no_z no_line) = let no : eqb b 122 ≡ 
 pub backslash_is_no_quote : (q : ℕ) → is_quote q ≡ true → 92 ≢ q
 backslash_is_no_quote q h e = elim (quote_cases q h) [ inl x ↦ omega arith | inr x ↦ omega arith ]
 
-plain_is_no_quote : (q b : ℕ) → is_plain q b ≡ true → b ≢ q
+pub quote_is_no_bracket : (q : ℕ) → is_quote q ≡ true → 91 ≢ q
+quote_is_no_bracket q h e = elim (quote_cases q h) [ inl x ↦ omega arith | inr x ↦ omega arith ]
+
+pub plain_is_no_quote : (q b : ℕ) → is_plain q b ≡ true → b ≢ q
 plain_is_no_quote q b h e = grind (arith, nat_tests)
 
 plain_is_no_line : (q b : ℕ) → is_plain q b ≡ true → is_line_byte b ≡ true → ⊥
@@ -81,6 +84,15 @@ AreUnits q units next = AllInPlace (IsUnit q) (λ unit. unit) units next
 -- what is left of a short string in the quotes q: units, and the quote
 abbrev pub IsRest : ℕ → List ℕ → Type 0
 IsRest q text = (units : List (List ℕ)) × AreUnits q units (q ∷ []) × (text ≡ joined units ++ q ∷ [])
+
+pub unit_some : {q : ℕ} {unit next : List ℕ} → IsUnit q unit next → 0 < length unit
+unit_some (unit_rule.plain q b next h) = omega arith
+unit_some (unit_rule.skip q spaces next all none) = omega arith
+unit_some (unit_rule.line_end q line next h) = omega arith
+unit_some (unit_rule.other q b next no_z no_line) = omega arith
+
+pub rest_some : (q : ℕ) (next : List ℕ) → IsRest q next → 0 < length next
+rest_some q next rest = omega (arith, ap length rest.2, length-append (joined rest.0) (q ∷ []))
 
 behind_unit : (q : ℕ) (unit next : List ℕ) (units : List (List ℕ)) → is_quote q ≡ true → IsUnit q unit next → AreUnits q units (q ∷ []) → unit ++ next ≡ joined units ++ q ∷ [] → IsRest q next
 behind_unit q unit next [] quote is all e = absurd (unit_begins quote is (ap (λ t. get_or t 0 0) e))

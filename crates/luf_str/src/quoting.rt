@@ -56,19 +56,27 @@ pub fn quotes(spelling: &[u8]) -> Counts
     ensures short { IsShortSpelling spelling.now → (result.single ≡ count_by (λ b. b == 39) (inside spelling.now)) × (result.double ≡ count_by (λ b. b == 34) (inside spelling.now)) }
     ensures long { IsLongSpelling spelling.now → (result.single ≡ 0) × (result.double ≡ 0) }
 {
-    let mut counts = Counts { single: 0, double: 0 };
     if spelling[0] == b'[' {
-        return counts;
+        return Counts { single: 0, double: 0 };
     }
-    let inside = head(tail(spelling, 1), spelling.len() - 2);
-    for b in inside {
+    quotes_in(head(tail(spelling, 1), spelling.len() - 2))
+}
+
+fn quotes_in(text: &[u8]) -> Counts
+    requires { length text.now < 2 ^ 32 }
+    ensures single { result.single ≡ count_by (λ b. b == 39) text.now }
+    ensures double { result.double ≡ count_by (λ b. b == 34) text.now }
+{
+    let mut single = 0;
+    let mut double = 0;
+    for b in text {
         if *b == b'\'' {
-            counts.single += 1;
+            single += 1;
         } else if *b == b'"' {
-            counts.double += 1;
+            double += 1;
         }
     }
-    counts
+    Counts { single, double }
 }
 
 /// How many bytes the unit of a short string at the front has.
@@ -103,4 +111,50 @@ fn push_unit(unit: &[u8], quotes: Quote, into: &mut Vec<u8>) -> Result<(), Memor
     Ok(())
 }
 
-pub fn requote() {}
+/// Appends a short string in the quotes, or a front of it before an error.
+fn push_short(spelling: &[u8], quotes: Quote, into: &mut Vec<u8>) -> Result<(), Memory>
+    requires { IsShortSpelling spelling.now }
+    ensures ok { OnOk result ((requoted : List ℕ) × IsShortRequoted spelling.now (quote_byte quotes) requoted × (into.new.items ≡ into.old.items ++ requoted)) }
+    ensures err { OnErr result (take (vec_len into.old) into.new.items ≡ into.old.items) }
+{
+    let from = spelling[0];
+    into.push(quotes.byte())?;
+    let mut at = 1;
+    while spelling[at] != from {
+        let rest = tail(spelling, at);
+        let length = unit_length(rest);
+        push_unit(head(rest, length), quotes, into)?;
+        at += length;
+    }
+    into.push(quotes.byte())?;
+    Ok(())
+}
+
+fn push_requoted(spelling: &[u8], quotes: Quote, into: &mut Vec<u8>) -> Result<(), Memory>
+    requires { IsSpelling spelling.now }
+    ensures ok { OnOk result ((requoted : List ℕ) × IsRequoted spelling.now (quote_byte quotes) requoted × (into.new.items ≡ into.old.items ++ requoted)) }
+    ensures err { OnErr result (take (vec_len into.old) into.new.items ≡ into.old.items) }
+{
+    if spelling[0] == b'[' {
+        into.extend_from_slice(spelling)?;
+        Ok(())
+    } else {
+        push_short(spelling, quotes, into)
+    }
+}
+
+/// Appends a string in the quotes `q`: inside, the quote `q` is written with a backslash and the other quote without.
+/// All else, and a long string whole, is kept. `into` grows by its own allocator; after an error it is as it was.
+pub fn requote(_alloc: Global, spelling: &[u8], q: Quote, into: &mut Vec<u8>) -> Result<(), Memory>
+    requires spelling { IsSpelling spelling.now }
+    requires size { length spelling.now < 2 ^ 32 }
+    ensures ok { OnOk result ((requoted : List ℕ) × IsRequoted spelling.now (quote_byte q) requoted × (into.new.items ≡ into.old.items ++ requoted)) }
+    ensures err { OnErr result (into.new.items ≡ into.old.items) }
+{
+    let before = into.len();
+    let result = push_requoted(spelling, q, into);
+    if result.is_err() {
+        into.truncate(before);
+    }
+    result
+}
