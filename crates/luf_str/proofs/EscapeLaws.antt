@@ -103,7 +103,7 @@ chosen false x y z e = inr (refl, e)
 abbrev pub IsRead : List ℕ → ℕ → Meaning → Type 0
 IsRead text n m = (n ≤ length text) × IsEscape (take n text) (drop n text) (bytes_of m)
 
-abbrev found : ℕ → Meaning → Option (ℕ × Meaning)
+abbrev pub found : ℕ → Meaning → Option (ℕ × Meaning)
 found n m = Some (n, m)
 
 -- the meaning that a reading gave

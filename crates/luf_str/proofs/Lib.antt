@@ -8,3 +8,4 @@ pub mod PartLaws
 pub mod LongLaws
 pub mod UnitReading
 pub mod Unique
+pub mod Requoting

@@ -20,7 +20,7 @@ use Rattle.luf_str.proofs.InPlace.{same_cut, in_place_join}
 use Rattle.std.proofs.lemmas.Grind.{flat_map-append}
 use Rattle.luf_str.proofs.EscapeLaws.{for_letters}
 
-quote_cases : (q : ℕ) → is_quote q ≡ true → (q ≡ 34) ⊎ (q ≡ 39)
+pub quote_cases : (q : ℕ) → is_quote q ≡ true → (q ≡ 34) ⊎ (q ≡ 39)
 quote_cases q h =
     elim (eqb q 34) as (λ t. eqb q 34 ≡ t → (q ≡ 34) ⊎ (q ≡ 39)) [
       | true ↦ λ yes. inl (eqb-true q 34 yes)
