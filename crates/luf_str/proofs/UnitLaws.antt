@@ -131,7 +131,7 @@ pub joined_singles : (bytes : List ℕ) → joined (singles bytes) ≡ bytes
 joined_singles [] = refl
 joined_singles (b ∷ bytes) = ap (λ t. b ∷ t) (joined_singles bytes)
 
-singles_in_place : (q : ℕ) (bytes next : List ℕ) → is_quote q ≡ true → AllOrdinary bytes → AreUnits q (singles bytes) next
+pub singles_in_place : (q : ℕ) (bytes next : List ℕ) → is_quote q ≡ true → AllOrdinary bytes → AreUnits q (singles bytes) next
 singles_in_place q [] next quote all = tt
 singles_in_place q (b ∷ bytes) next quote all = (unit_rule.plain q b _ (ordinary_is_plain q b quote all.0), singles_in_place q bytes next quote all.1)
 
