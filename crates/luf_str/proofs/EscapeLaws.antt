@@ -1,12 +1,12 @@
 -- `escape_at` finds each escape, and what it finds is one.
-use Rattle.std.proofs.Common.{◌≡◌, ℕ, suc, ◌+◌, ◌-◌, ◌*◌, ◌<◌, ◌≤◌, ◌^◌, ◌⊎◌, Bool, true, false, cond, not, eqb, leb, ltb, ◌||◌, ◌&&◌, List, [], ◌∷◌, ◌++◌, length, get_or, take, drop, Option, Some, None, refl, sym, ap, subst, ◌∙◌, arith, inl, inr, append_assoc}
-use Rattle.std.specs.Prelude.{IsTrue, IsFalse, slice_index, option_map}
+use Rattle.std.proofs.Common.{◌≡◌, ℕ, suc, ◌+◌, ◌-◌, ◌*◌, ◌<◌, ◌≤◌, ◌^◌, ◌⊎◌, Bool, true, false, cond, eqb, leb, ltb, ◌&&◌, List, [], ◌∷◌, ◌++◌, length, get_or, take, drop, Option, Some, None, refl, sym, ap, subst, ◌∙◌, arith, inl, inr, append_assoc}
+use Rattle.std.specs.Prelude.{IsTrue, slice_index, option_map}
 use Rattle.std.specs.List.{AllByRecursion, prefix_len}
 use Rattle.std.proofs.lemmas.Bool.{eqb-true, lt-ltb, ltb-true, leb-true, cases_lt, false≢true}
 use Rattle.std.proofs.lemmas.Bool.Decides.{nat_tests}
 use Rattle.luf_str.specs.declared.escapes.Meaning.{Meaning}
 use Rattle.luf_str.specs.declared.escapes.Meaning.TheVariants.{Byte, Code, Nothing}
-use Rattle.luf_str.specs.Bytes.{is_line_byte, is_line_pair, is_space, is_digit, is_hex_digit, hex_value, hex_number, decimal_number}
+use Rattle.luf_str.specs.Bytes.{is_line_byte, is_space, is_digit, is_hex_digit, hex_value, hex_number, decimal_number}
 use Rattle.luf_str.specs.Pieces.{NoneAtFront, IsLineEnd}
 use Rattle.luf_str.specs.Escape.{IsEscape, NoEscape, letter_value}
 use Rattle.luf_str.specs.Escape as rule
@@ -29,7 +29,7 @@ row P c byte k v others here there =
 
 -- what holds of each escape of one letter or sign
 pub for_letters : (P : ℕ → ℕ → Type 0) → P 97 7 → P 98 8 → P 102 12 → P 110 10 → P 114 13 → P 116 9 → P 118 11 → P 92 92 → P 34 34 → P 39 39
-  → (c byte : ℕ) → letter_value c ≡ Some byte → P c byte
+    → (c byte : ℕ) → letter_value c ≡ Some byte → P c byte
 for_letters P a b f n r t v backslash double single c byte =
     row P c byte 97 7 _ a (row P c byte 98 8 _ b (row P c byte 102 12 _ f (row P c byte 110 10 _ n (row P c byte 114 13 _ r (row P c byte 116 9 _ t (row P c byte 118 11 _ v (row P c byte 92 92 _ backslash (row P c byte 34 34 _ double (row P c byte 39 39 _ single (λ e. absurd cc))))))))))
 
@@ -61,7 +61,7 @@ no_digit [] h = refl
 no_digit (b ∷ next) h = h
 
 decimal_reads : (digits next : List ℕ) → 1 ≤ length digits → length digits ≤ 3 → AllByRecursion (λ b. IsTrue (is_digit b)) digits → (length digits < 3 → NoneAtFront is_digit next) → decimal_number digits ≤ 255
-  → escape_at (digits ++ next) ≡ Some (length digits, Byte (decimal_number digits))
+    → escape_at (digits ++ next) ≡ Some (length digits, Byte (decimal_number digits))
 unfolding decimal_at
 decimal_reads [] next some most all none small = absurd (omega arith)
 decimal_reads (a ∷ []) next some most all none small =
@@ -75,7 +75,7 @@ decimal_reads (a ∷ b ∷ c ∷ []) next some most all none small =
 decimal_reads (a ∷ b ∷ c ∷ d ∷ digits) next some most all none small = absurd (omega arith)
 
 code_reads : (digits next : List ℕ) → 1 ≤ length digits → AllByRecursion (λ b. IsTrue (is_hex_digit b)) digits → hex_number digits < 2 ^ 31
-  → escape_at (117 ∷ 123 ∷ ((digits ++ 125 ∷ []) ++ next)) ≡ Some (3 + length digits, Code (hex_number digits))
+    → escape_at (117 ∷ 123 ∷ ((digits ++ 125 ∷ []) ++ next)) ≡ Some (3 + length digits, Code (hex_number digits))
 unfolding code_at
 code_reads digits next some all small =
     let count : prefix_len is_hex_digit (digits ++ 125 ∷ next) ≡ length digits = prefix_len-whole is_hex_digit digits (125 ∷ next) all refl in
@@ -133,7 +133,7 @@ hexadecimal_sound (high ∷ low ∷ text) n m e =
     same_read (120 ∷ high ∷ low ∷ text) n m 3 (Byte (16 * hex_value high + hex_value low)) (omega arith, rule.hexadecimal high low text digits.0 digits.1) p.1
 
 decimal_escape : (digits next : List ℕ) (value : ℕ) → decimal_number digits ≡ value → 1 ≤ length digits → length digits ≤ 3 → AllByRecursion (λ b. IsTrue (is_digit b)) digits → (length digits < 3 → NoneAtFront is_digit next) → value ≤ 255
-  → IsEscape digits next (value ∷ [])
+    → IsEscape digits next (value ∷ [])
 decimal_escape digits next value e some most all none small = subst (λ v. IsEscape digits next (v ∷ [])) e (rule.decimal digits next some most all none (omega arith))
 
 two_small : (a b : ℕ) → is_digit a ≡ true → is_digit b ≡ true → 10 * (a - 48) + (b - 48) ≤ 99
@@ -142,7 +142,7 @@ two_small a b g h = let x : a - 48 ≤ 9 = grind (arith, nat_tests) in let y : b
 -- what two digits or three are read as
 abbrev rest_of_decimal : ℕ → ℕ → List ℕ → Option (ℕ × Meaning)
 rest_of_decimal a b text = let first = a - 48 in let second = b - 48 in let third = slice_index text 0 - 48 in
-  cond (is_digit (slice_index text 0))
+    cond (is_digit (slice_index text 0))
     (cond (leb (100 * first + 10 * second + third) 255) (Some (3, Byte (100 * first + 10 * second + third))) None)
     (Some (2, Byte (10 * first + second)))
 
@@ -153,9 +153,9 @@ decimal_sound_two a b [] n m g h e =
 decimal_sound_two a b (c ∷ text) n m g h e =
     elim (chosen (is_digit c) _ _ _ e) [
       | inl three ↦ let p = passed _ _ _ three.1 in
-        same_read (a ∷ b ∷ c ∷ text) n m 3 (Byte (100 * (a - 48) + 10 * (b - 48) + (c - 48))) (omega arith, decimal_escape (a ∷ b ∷ c ∷ []) text _ (omega arith) (omega arith) (omega arith) (g, (h, (three.0, tt))) (λ lt. absurd (omega arith)) (leb-true _ _ p.0)) p.1
+          same_read (a ∷ b ∷ c ∷ text) n m 3 (Byte (100 * (a - 48) + 10 * (b - 48) + (c - 48))) (omega arith, decimal_escape (a ∷ b ∷ c ∷ []) text _ (omega arith) (omega arith) (omega arith) (g, (h, (three.0, tt))) (λ lt. absurd (omega arith)) (leb-true _ _ p.0)) p.1
       | inr two ↦ let small = two_small a b g h in
-        same_read (a ∷ b ∷ c ∷ text) n m 2 (Byte (10 * (a - 48) + (b - 48))) (omega arith, decimal_escape (a ∷ b ∷ []) (c ∷ text) _ (omega arith) (omega arith) (omega arith) (g, (h, tt)) (λ _. two.0) (omega arith)) two.1
+          same_read (a ∷ b ∷ c ∷ text) n m 2 (Byte (10 * (a - 48) + (b - 48))) (omega arith, decimal_escape (a ∷ b ∷ []) (c ∷ text) _ (omega arith) (omega arith) (omega arith) (g, (h, tt)) (λ _. two.0) (omega arith)) two.1
     ]
 
 decimal_sound : (a : ℕ) (text : List ℕ) (n : ℕ) (m : Meaning) → is_digit a ≡ true → decimal_at (a ∷ text) ≡ Some (n, m) → IsRead (a ∷ text) n m
@@ -167,7 +167,7 @@ decimal_sound a (b ∷ text) n m h e =
     elim (chosen (is_digit b) _ _ _ e) [
       | inl two ↦ decimal_sound_two a b text n m h two.0 two.1
       | inr one ↦ let small : a - 48 ≤ 9 = grind (arith, nat_tests) in
-        same_read (a ∷ b ∷ text) n m 1 (Byte (a - 48)) (omega arith, decimal_escape (a ∷ []) (b ∷ text) (a - 48) (omega arith) (omega arith) (omega arith) (h, tt) (λ _. one.0) (omega arith)) one.1
+          same_read (a ∷ b ∷ text) n m 1 (Byte (a - 48)) (omega arith, decimal_escape (a ∷ []) (b ∷ text) (a - 48) (omega arith) (omega arith) (omega arith) (h, tt) (λ _. one.0) (omega arith)) one.1
     ]
 
 code_sound : (text : List ℕ) (n : ℕ) (m : Meaning) → code_at (117 ∷ text) ≡ Some (n, m) → IsRead (117 ∷ text) n m

@@ -1,8 +1,8 @@
 -- The bytes of one kind at the front of a text, and the line end there.
-use Rattle.std.proofs.Common.{◌≡◌, ℕ, suc, ◌+◌, ◌<◌, ◌≤◌, ◌⊎◌, Bool, true, false, cond, not, eqb, ◌||◌, ◌&&◌, List, [], ◌∷◌, ◌++◌, length, get_or, take, drop, refl, sym, ap, ◌∙◌, arith, inl, inr, append_assoc}
-use Rattle.std.specs.Prelude.{IsTrue, IsFalse, slice_index}
+use Rattle.std.proofs.Common.{◌≡◌, ℕ, suc, ◌+◌, ◌≤◌, ◌⊎◌, Bool, true, false, cond, not, eqb, ◌&&◌, List, [], ◌∷◌, ◌++◌, length, take, drop, refl, arith, inl, inr}
+use Rattle.std.specs.Prelude.{IsTrue}
 use Rattle.std.specs.List.{AllByRecursion, prefix_len}
-use Rattle.std.proofs.lemmas.Bool.{eqb-true, false≢true}
+use Rattle.std.proofs.lemmas.Bool.{eqb-true}
 use Rattle.std.proofs.lemmas.Bool.Decides.{nat_tests}
 use Rattle.luf_str.specs.Bytes.{is_line_byte, is_line_pair}
 use Rattle.luf_str.specs.Pieces.{NoneAtFront, IsLineEnd}
@@ -59,7 +59,7 @@ line_end_length-is (a ∷ b ∷ c ∷ line) next h = absurd h
 
 -- the line end that is read is one
 pub line_end-reads : (a : ℕ) (text : List ℕ) → is_line_byte a ≡ true
-  → (line_end_length (a ∷ text) ≤ length (a ∷ text)) × IsLineEnd (take (line_end_length (a ∷ text)) (a ∷ text)) (drop (line_end_length (a ∷ text)) (a ∷ text))
+    → (line_end_length (a ∷ text) ≤ length (a ∷ text)) × IsLineEnd (take (line_end_length (a ∷ text)) (a ∷ text)) (drop (line_end_length (a ∷ text)) (a ∷ text))
 line_end-reads a [] h =
     let one : line_end_length (a ∷ []) ≡ 1 = line_end_length-is (a ∷ []) [] (h, tt) in
     rw one (omega arith, (h, tt))

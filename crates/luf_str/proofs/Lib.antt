@@ -9,3 +9,4 @@ pub mod LongLaws
 pub mod UnitReading
 pub mod Unique
 pub mod Requoting
+pub mod Apart

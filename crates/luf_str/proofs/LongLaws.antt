@@ -1,11 +1,11 @@
 -- Reading a long string.
-use Rattle.std.proofs.Common.{◌≡◌, ◌≢◌, ℕ, zero, suc, ◌+◌, ◌-◌, ◌<◌, ◌≤◌, ◌⊎◌, Bool, true, false, cond, eqb, List, [], ◌∷◌, ◌++◌, length, get_or, take, drop, replicate, refl, sym, ap, subst, ◌∙◌, arith, inl, inr, append_assoc}
-use Rattle.std.specs.Prelude.{IsTrue, IsFalse, ◌==◌}
-use Rattle.std.specs.List.{AllByRecursion, prefix_len, flat_map}
+use Rattle.std.proofs.Common.{◌≡◌, ℕ, zero, suc, ◌+◌, ◌-◌, ◌<◌, ◌≤◌, Bool, true, false, cond, List, [], ◌∷◌, ◌++◌, length, get_or, take, drop, replicate, refl, sym, ap, subst, ◌∙◌, arith, append_assoc}
+use Rattle.std.specs.Prelude.{IsTrue, ◌==◌}
+use Rattle.std.specs.List.{AllByRecursion, prefix_len}
 use Rattle.std.proofs.lemmas.Grind.{flat_map-append}
-use Rattle.std.proofs.lemmas.List.{append-nil, take-append-drop, length-append, length-replicate, length-take-le, drop-drop, take_at, drop_at, nil_from_length}
+use Rattle.std.proofs.lemmas.List.{append-nil, take-append-drop, length-append, length-replicate, drop-drop, take_at, drop_at, nil_from_length}
 use Rattle.luf_str.specs.Bytes.{is_line_byte, is_line_pair}
-use Rattle.luf_str.specs.Pieces.{AllInPlace, NoneAtFront, IsLineEnd}
+use Rattle.luf_str.specs.Pieces.{IsLineEnd}
 use Rattle.luf_str.specs.Spelling.{opening, closing, IsLongOf, IsLongSpelling}
 use Rattle.luf_str.specs.Value.{IsLongPart, Part, spelling_of, meaning_of, AreLongParts, IsDropped, IsLongText}
 use Rattle.luf_str.specs.Value as rule
@@ -20,17 +20,19 @@ all_equals : (n : ℕ) → AllByRecursion (λ b. IsTrue (b == 61)) (replicate n 
 all_equals zero = tt
 all_equals (suc n) = (refl, all_equals n)
 
-opening_length : (n : ℕ) → length (opening n) ≡ n + 2
+pub opening_length : (n : ℕ) → length (opening n) ≡ n + 2
 opening_length n = omega (arith, length-append {A = ℕ} (replicate n 61) (91 ∷ []), length-replicate {A = ℕ} n 61)
 
 closing_length : (n : ℕ) → length (closing n) ≡ n + 2
 closing_length n = omega (arith, length-append {A = ℕ} (replicate n 61) (93 ∷ []), length-replicate {A = ℕ} n 61)
 
 -- the level is read off the front, and the body by its length
+pub level_front : (n : ℕ) (next : List ℕ) → prefix_len (λ b. b == 61) (drop 1 (opening n ++ next)) ≡ n
+level_front n next =
+    ap (prefix_len (λ b. b == 61)) (append_assoc (replicate n 61) (91 ∷ []) next) ∙ prefix_len-whole (λ b. b == 61) (replicate n 61) (91 ∷ next) (all_equals n) refl ∙ length-replicate {A = ℕ} n 61
+
 pub level_is : (n : ℕ) (body spelling : List ℕ) → IsLongOf n body spelling → prefix_len (λ b. b == 61) (drop 1 spelling) ≡ n
-level_is n body spelling long =
-    let regrouped : drop 1 spelling ≡ replicate n 61 ++ 91 ∷ (body ++ closing n) = ap (drop 1) long.0 ∙ append_assoc (replicate n 61) (91 ∷ []) (body ++ closing n) in
-    ap (prefix_len (λ b. b == 61)) regrouped ∙ prefix_len-whole (λ b. b == 61) (replicate n 61) (91 ∷ (body ++ closing n)) (all_equals n) refl ∙ length-replicate {A = ℕ} n 61
+level_is n body spelling long = ap (λ t. prefix_len (λ b. b == 61) (drop 1 t)) long.0 ∙ level_front n (body ++ closing n)
 
 pub long_length : (n : ℕ) (body spelling : List ℕ) → IsLongOf n body spelling → length spelling ≡ n + 2 + length body + (n + 2)
 long_length n body spelling long = omega (arith, ap length long.0, length-append (opening n) (body ++ closing n), length-append body (closing n), opening_length n, closing_length n)
@@ -46,7 +48,7 @@ level_cuts spelling level m body e long =
     ap (λ x. take (length spelling - (level + 2) - (level + 2)) (drop (x + 2) spelling)) e ∙ body_is m body spelling long _ k
 
 pub level_fits : (spelling rest : List ℕ) (level : ℕ) → IsLongSpelling spelling → rest ≡ drop 1 spelling → level ≡ prefix_len (λ b. b == 61) rest
-  → (level + 2 + (level + 2) ≤ length spelling) × ((n : ℕ) (body : List ℕ) → IsLongOf n body spelling → take (length spelling - (level + 2) - (level + 2)) (drop (level + 2) spelling) ≡ body)
+    → (level + 2 + (level + 2) ≤ length spelling) × ((n : ℕ) (body : List ℕ) → IsLongOf n body spelling → take (length spelling - (level + 2) - (level + 2)) (drop (level + 2) spelling) ≡ body)
 level_fits spelling rest level (n, body, long) e l =
     let is : level ≡ n = l ∙ ap (prefix_len (λ b. b == 61)) e ∙ level_is n body spelling long in
     (omega (arith, long_length n body spelling long), λ m other long'. level_cuts spelling level m other (l ∙ ap (prefix_len (λ b. b == 61)) e ∙ level_is m other spelling long') long')
@@ -71,9 +73,9 @@ long_starts [] = record { dropped = []; parts = []; text = refl; first = tt; are
 long_starts (a ∷ body) =
     elim (is_line_byte a) as (λ t. is_line_byte a ≡ t → IsLongReadTo (a ∷ body) (drop (line_end_length (a ∷ body)) (a ∷ body)) []) [
       | true ↦ λ yes. let line = line_end-reads a body yes in
-        record { dropped = take (line_end_length (a ∷ body)) (a ∷ body); parts = []; text = sym (take-append-drop (line_end_length (a ∷ body)) (a ∷ body)); first = dropped_line _ _ line.1; are = tt; value = refl }
+          record { dropped = take (line_end_length (a ∷ body)) (a ∷ body); parts = []; text = sym (take-append-drop (line_end_length (a ∷ body)) (a ∷ body)); first = dropped_line _ _ line.1; are = tt; value = refl }
       | false ↦ λ no. let none : line_end_length (a ∷ body) ≡ 0 = rw no refl in
-        subst (λ n. IsLongReadTo (a ∷ body) (drop n (a ∷ body)) []) (sym none) (record { dropped = []; parts = []; text = refl; first = no; are = tt; value = refl })
+          subst (λ n. IsLongReadTo (a ∷ body) (drop n (a ∷ body)) []) (sym none) (record { dropped = []; parts = []; text = refl; first = no; are = tt; value = refl })
     ] refl
 
 one_more : (body done part next value : List ℕ) → IsLongReadTo body (part ++ next) done → IsLongPart part next value → IsLongReadTo body next (done ++ value)
@@ -92,7 +94,7 @@ one_more body done part next value r is =
     }
 
 pub long_goes_on : (body done : List ℕ) (at n : ℕ) (value : List ℕ) → IsLongReadTo body (drop at body) done → IsLongPart (take n (drop at body)) (drop n (drop at body)) value
-  → IsLongReadTo body (drop (at + n) body) (done ++ value)
+    → IsLongReadTo body (drop (at + n) body) (done ++ value)
 long_goes_on body done at n value r is =
     let rest : List ℕ = drop at body in
     subst (λ t. IsLongReadTo body t (done ++ value)) (drop-drop n at body) (one_more body done (take n rest) (drop n rest) value (subst (λ t. IsLongReadTo body t done) (sym (take-append-drop n rest)) r) is)

@@ -1,17 +1,14 @@
 -- Reading a short string part by part.
-use Rattle.std.proofs.Common.{◌≡◌, ◌≢◌, ℕ, suc, ◌+◌, ◌<◌, ◌≤◌, ◌⊎◌, Bool, true, false, List, [], ◌∷◌, ◌++◌, length, get_or, take, drop, refl, sym, ap, subst, ◌∙◌, arith, inl, inr, append_assoc}
-use Rattle.std.specs.Prelude.{IsTrue, IsFalse}
-use Rattle.std.specs.List.{flat_map}
+use Rattle.std.proofs.Common.{◌≡◌, ℕ, ◌+◌, ◌≤◌, true, List, [], ◌∷◌, ◌++◌, length, get_or, take, drop, refl, sym, ap, subst, ◌∙◌, arith, append_assoc}
 use Rattle.std.proofs.lemmas.Grind.{flat_map-append}
 use Rattle.std.proofs.lemmas.List.{append-nil, take-append-drop, length-append, length-take-le, drop-drop}
-use Rattle.luf_str.specs.Bytes.{is_quote, is_line_byte}
-use Rattle.luf_str.specs.Pieces.{AllInPlace}
+use Rattle.luf_str.specs.Bytes.{is_quote}
 use Rattle.luf_str.specs.Escape.{NoEscape}
 use Rattle.luf_str.specs.Spelling.{joined, IsShortSpelling}
 use Rattle.luf_str.specs.Value.{IsPart, Part, spelling_of, meaning_of, AreParts, IsShortValue, FirstBad}
 use Rattle.luf_str.specs.Front.{IsEnd}
 use Rattle.luf_str.proofs.InPlace.{in_place_push}
-use Rattle.luf_str.proofs.UnitLaws.{IsRest, unit_is_no_end, rest_behind_part, backslash_is_no_quote}
+use Rattle.luf_str.proofs.UnitLaws.{IsRest, unit_is_no_end, rest_behind_part}
 
 -- The short string in the quotes q is read up to the place at; what was read stands for done, and next is left.
 pub record IsReadTo (q : ℕ) (spelling : List ℕ) (at : ℕ) (next done : List ℕ) : Type 0 where
@@ -43,7 +40,7 @@ one_more q spelling at done part next value r is =
     }
 
 pub goes_on : (q : ℕ) (spelling : List ℕ) (at : ℕ) (done : List ℕ) (n : ℕ) (value : List ℕ) → IsReadTo q spelling at (drop at spelling) done
-  → n ≤ length (drop at spelling) → IsPart q (take n (drop at spelling)) (drop n (drop at spelling)) value → IsReadTo q spelling (at + n) (drop (at + n) spelling) (done ++ value)
+    → n ≤ length (drop at spelling) → IsPart q (take n (drop at spelling)) (drop n (drop at spelling)) value → IsReadTo q spelling (at + n) (drop (at + n) spelling) (done ++ value)
 goes_on q spelling at done n value r le is =
     let rest : List ℕ = drop at spelling in
     let more = one_more q spelling at done (take n rest) (drop n rest) value (subst (λ t. IsReadTo q spelling at t done) (sym (take-append-drop n rest)) r) is in

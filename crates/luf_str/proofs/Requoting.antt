@@ -1,24 +1,25 @@
 -- A short string in other quotes has the same value.
-use Rattle.std.proofs.Common.{◌≡◌, ◌≢◌, ℕ, suc, ◌+◌, ◌<◌, ◌≤◌, ◌⊎◌, ◌↔◌, Bool, true, false, cond, not, ◌||◌, ◌&&◌, eqb, List, [], ◌∷◌, ◌++◌, length, get_or, take, drop, map, Some, refl, sym, ap, subst, ◌∙◌, arith, inl, inr, append_assoc}
-use Rattle.std.specs.Prelude.{IsTrue, IsFalse, ◌==◌}
-use Rattle.std.specs.List.{flat_map, AllByRecursion}
+use Rattle.std.proofs.Common.{◌≡◌, ◌≢◌, ℕ, ◌<◌, ◌⊎◌, ◌↔◌, Bool, true, false, cond, not, ◌||◌, ◌&&◌, eqb, List, [], ◌∷◌, ◌++◌, length, get_or, map, Some, refl, sym, ap, subst, ◌∙◌, arith, inl, inr, append_assoc}
+use Rattle.std.specs.Prelude.{IsTrue, ◌==◌}
+use Rattle.std.specs.List.{AllByRecursion}
 use Rattle.std.proofs.lemmas.Grind.{flat_map-append}
-use Rattle.std.proofs.lemmas.List.{append-nil, append_cancel_right}
+use Rattle.std.proofs.lemmas.List.{append-nil}
 use Rattle.std.proofs.lemmas.Bool.{eqb-true, false≢true}
 use Rattle.std.proofs.lemmas.Bool.Decides.{nat_tests}
 use Rattle.luf_str.specs.Bytes.{is_line_byte, is_line_pair, is_space, is_digit, is_quote, is_plain}
-use Rattle.luf_str.specs.Pieces.{AllInPlace, NoneAtFront, IsLineEnd}
+use Rattle.luf_str.specs.Pieces.{NoneAtFront, IsLineEnd}
 use Rattle.luf_str.specs.Escape.{IsEscape, letter_value}
 use Rattle.luf_str.specs.Escape as escape_rule
-use Rattle.luf_str.specs.Spelling.{IsUnit, joined, IsCut, IsShortIn}
+use Rattle.luf_str.specs.Spelling.{IsUnit, joined, IsCut, IsShortIn, IsLongSpelling}
 use Rattle.luf_str.specs.Spelling as unit_rule
 use Rattle.luf_str.specs.Value.{IsPart, Part, spelling_of, meaning_of, AreParts, IsShortValue, IsValue}
 use Rattle.luf_str.specs.Value as part_rule
 use Rattle.luf_str.specs.Reading.{unit_length}
-use Rattle.luf_str.specs.Requote.{other_quote, requoted_unit, IsShortRequoted, IsRequoted}
+use Rattle.luf_str.specs.declared.quoting.Quote.{Quote}
+use Rattle.luf_str.specs.declared.quoting.Quote.TheVariants.{Single, Double}
+use Rattle.luf_str.specs.Requote.{quote_byte, other_quote, requoted_unit, IsShortRequoted, IsRequoted, IsSameString}
 use Rattle.luf_str.proofs.InPlace.{same_cut}
 use Rattle.luf_str.proofs.Leading.{first_line_byte}
-use Rattle.luf_str.proofs.EscapeLaws.{for_letters}
 use Rattle.luf_str.proofs.UnitLaws.{AreUnits, unit_length-is, unit_begins, unit_some, quote_cases, is_ordinary, ordinary_is_plain, AllOrdinary, singles, joined_singles, singles_in_place, Shape, shape, one_byte, line_end, skip}
 use Rattle.luf_str.proofs.Unique.{first_is, same_escape, long_is_not_short}
 
@@ -45,11 +46,11 @@ alike_back (u ∷ us) (w ∷ ws) h = (elim h.0 [ inl e ↦ inl (sym e) | inr q �
 
 -- ---- what stands at the front of alike units
 
-abbrev is_quote_like : ℕ → Bool
+abbrev pub is_quote_like : ℕ → Bool
 is_quote_like b = is_quote b || b == 92
 
 -- the first bytes are one, or each is a quote or a backslash
-abbrev HasSameFront : List ℕ → List ℕ → Type 0
+abbrev pub HasSameFront : List ℕ → List ℕ → Type 0
 HasSameFront m n = (get_or m 0 0 ≡ get_or n 0 0) ⊎ ((is_quote_like (get_or m 0 0) ≡ true) × (is_quote_like (get_or n 0 0) ≡ true))
 
 quote_is_like : (q : ℕ) → is_quote q ≡ true → is_quote_like q ≡ true
@@ -76,7 +77,7 @@ alike_front p q (u ∷ us) (w ∷ ws) hp hq all alike =
     ]
 
 -- a kind of bytes that has neither quotes nor the backslash, nor 0
-abbrev IsApart : (ℕ → Bool) → Type 0
+abbrev pub IsApart : (ℕ → Bool) → Type 0
 IsApart kind = (kind 0 ≡ false) × ((b : ℕ) → is_quote_like b ≡ true → kind b ≡ false)
 
 none_is : (kind : ℕ → Bool) (m : List ℕ) → kind (get_or m 0 0) ≡ false → NoneAtFront kind m
@@ -87,7 +88,7 @@ is_none : (kind : ℕ → Bool) (m : List ℕ) → IsApart kind → NoneAtFront 
 is_none kind [] apart h = apart.0
 is_none kind (b ∷ m) apart h = h
 
-none_again : (kind : ℕ → Bool) (m n : List ℕ) → IsApart kind → HasSameFront m n → NoneAtFront kind m → NoneAtFront kind n
+pub none_again : (kind : ℕ → Bool) (m n : List ℕ) → IsApart kind → HasSameFront m n → NoneAtFront kind m → NoneAtFront kind n
 none_again kind m n apart (inl e) none = none_is kind n (ap kind (sym e) ∙ is_none kind m apart none)
 none_again kind m n apart (inr h) none = none_is kind n (apart.1 (get_or n 0 0) h.1)
 
@@ -108,7 +109,7 @@ by_quotes kind zero double single backslash =
 digits_apart : IsApart is_digit
 digits_apart = by_quotes is_digit refl refl refl refl
 
-spaces_apart : IsApart is_space
+pub spaces_apart : IsApart is_space
 spaces_apart = by_quotes is_space refl refl refl refl
 
 no_pair : (a b : ℕ) → is_line_byte b ≡ false → is_line_pair a b ≡ false
@@ -117,7 +118,7 @@ no_pair a b h = elim (is_line_byte a) as (λ t. (t && is_line_byte b && not (eqb
 pairs_apart : (a : ℕ) → IsApart (is_line_pair a)
 pairs_apart a = by_quotes (is_line_pair a) (no_pair a 0 refl) (no_pair a 34 refl) (no_pair a 39 refl) (no_pair a 92 refl)
 
-line_end_again : (line m n : List ℕ) → HasSameFront m n → IsLineEnd line m → IsLineEnd line n
+pub line_end_again : (line m n : List ℕ) → HasSameFront m n → IsLineEnd line m → IsLineEnd line n
 line_end_again [] m n same h = absurd h
 line_end_again (a ∷ []) m n same h = (h.0, none_again (is_line_pair a) m n (pairs_apart a) same h.1)
 line_end_again (a ∷ b ∷ []) m n same h = h
@@ -141,8 +142,8 @@ AreFixed units = AllByRecursion (λ u. (c : ℕ) → is_quote c ≡ true → IsQ
 -- either the part is a quote, and stands for it, or its units are kept and it stands for the same in other quotes
 abbrev Carries : ℕ → ℕ → List ℕ → List ℕ → List ℕ → Type 0
 Carries p q part next value =
-  ((c : ℕ) × IsTrue (is_quote c) × IsQuoteUnit c part × IsUnit p part next × (value ≡ c ∷ []))
-  ⊎ ((units : List (List ℕ)) × AreUnits p units next × (part ≡ joined units) × AreFixed units × ((n : List ℕ) → HasSameFront next n → IsPart q part n value))
+    ((c : ℕ) × IsTrue (is_quote c) × IsQuoteUnit c part × IsUnit p part next × (value ≡ c ∷ []))
+    ⊎ ((units : List (List ℕ)) × AreUnits p units next × (part ≡ joined units) × AreFixed units × ((n : List ℕ) → HasSameFront next n → IsPart q part n value))
 
 single_is_fixed : (b : ℕ) → is_quote b ≡ false → (c : ℕ) → is_quote c ≡ true → IsQuoteUnit c (b ∷ []) → ⊥
 single_is_fixed b h c quote (inl e) = let same : b ≡ c = cc in false≢true (sym h ∙ ap is_quote same ∙ quote)
@@ -194,9 +195,9 @@ shape_carries : {escape next : List ℕ} (p q : ℕ) (value : List ℕ) → is_q
 shape_carries p q value quote is (one_byte c others next no_z no_line all) =
     elim (is_quote c) as (λ t. is_quote c ≡ t → Carries p q (92 ∷ c ∷ others) next value) [
       | true ↦ λ yes. let l = letter_of_quote c others next value yes is in
-        inl (c, yes, inr (ap (λ t. 92 ∷ c ∷ t) l.0), subst (λ t. IsUnit p (92 ∷ c ∷ t) next) (sym l.0) (unit_rule.other p c next no_z no_line), l.1)
+          inl (c, yes, inr (ap (λ t. 92 ∷ c ∷ t) l.0), subst (λ t. IsUnit p (92 ∷ c ∷ t) next) (sym l.0) (unit_rule.other p c next no_z no_line), l.1)
       | false ↦ λ plain. kept p q (c ∷ others) next value ((92 ∷ c ∷ []) ∷ singles others) is (unit_rule.other p c _ no_z no_line, singles_in_place p others next quote all)
-        (ap (λ t. 92 ∷ c ∷ t) (sym (joined_singles others))) (pair_is_fixed c plain, singles_are_fixed others all)
+          (ap (λ t. 92 ∷ c ∷ t) (sym (joined_singles others))) (pair_is_fixed c plain, singles_are_fixed others all)
     ] refl
 shape_carries p q value quote is (line_end line next h) =
     kept p q line next value ((92 ∷ line) ∷ []) is (unit_rule.line_end p line next h, tt) (ap (λ t. 92 ∷ t) (sym (append-nil line))) (line_is_fixed line next h, tt)
@@ -214,7 +215,7 @@ units_are u k us ks e f = cc
 
 -- the units that are left behind some units
 split_units : (q : ℕ) (ks us : List (List ℕ)) (next : List ℕ) → is_quote q ≡ true → AreUnits q ks next → AreUnits q us (q ∷ []) → joined us ++ q ∷ [] ≡ joined ks ++ next
-  → (rest : List (List ℕ)) × (us ≡ ks ++ rest) × AreUnits q rest (q ∷ []) × (joined rest ++ q ∷ [] ≡ next)
+    → (rest : List (List ℕ)) × (us ≡ ks ++ rest) × AreUnits q rest (q ∷ []) × (joined rest ++ q ∷ [] ≡ next)
 split_units q [] us next quote kept all e = (us, refl, all, e)
 split_units q (k ∷ ks) [] next quote kept all e = absurd (unit_begins quote kept.0 (ap (λ t. get_or t 0 0) (sym (append_assoc k (joined ks) next) ∙ sym e)))
 split_units q (k ∷ ks) (u ∷ us) next quote kept all e =
@@ -269,14 +270,14 @@ part_first q units ws part value rest is e (rs, all, text, v) =
 
 -- a quote comes first
 carry_quote : (q c : ℕ) (part : List ℕ) (us ws : List (List ℕ)) (rest : List ℕ) → is_quote q ≡ true → is_quote c ≡ true → IsQuoteUnit c part → AreAlike (part ∷ us) ws → AreUnits q ws (q ∷ [])
-  → ((behind : List (List ℕ)) → AreAlike us behind → AreUnits q behind (q ∷ []) → Reads q behind rest) → Reads q ws (c ∷ rest)
+    → ((behind : List (List ℕ)) → AreAlike us behind → AreUnits q behind (q ∷ []) → Reads q behind rest) → Reads q ws (c ∷ rest)
 carry_quote q c part us [] rest hq hc unit alike others continue = absurd alike
 carry_quote q c part us (w ∷ ws) rest hq hc unit alike others continue =
     let quoted : IsQuoteUnit c w = elim alike.0 [ inl e ↦ subst (IsQuoteUnit c) e unit | inr d ↦ subst (λ x. IsQuoteUnit x w) (sym (same_quote c d.0 part hc d.1 unit d.2)) d.3 ] in
     part_first q (w ∷ []) ws w (c ∷ []) rest (quote_part q c w (joined ws ++ q ∷ []) hq hc quoted others.0) (sym (append-nil w)) (continue ws alike.1 others.1)
 
 carry : (p q : ℕ) (ps : List Part) (us ws : List (List ℕ)) → is_quote p ≡ true → is_quote q ≡ true → AreParts p ps (p ∷ []) → AreUnits p us (p ∷ []) → AreUnits q ws (q ∷ []) → AreAlike us ws
-  → joined us ++ p ∷ [] ≡ spelling_of ps ++ p ∷ [] → Reads q ws (meaning_of ps)
+    → joined us ++ p ∷ [] ≡ spelling_of ps ++ p ∷ [] → Reads q ws (meaning_of ps)
 carry p q [] [] [] hp hq parts all others alike e = ([], tt, refl, refl)
 carry p q [] [] (w ∷ ws) hp hq parts all others alike e = absurd alike
 carry p q [] (u ∷ us) ws hp hq parts all others alike e = absurd (unit_begins hp all.0 (ap (λ t. get_or t 0 0) (sym (append_assoc u (joined us) (p ∷ [])) ∙ e)))
@@ -285,17 +286,17 @@ carry p q (x ∷ ps) us ws hp hq parts all others alike e =
     let cut : joined us ++ p ∷ [] ≡ x.spelling ++ next = e ∙ append_assoc x.spelling (spelling_of ps) (p ∷ []) in
     elim (part_carries q hp hq parts.0) [
       | inl (c, hc, unit, is, value) ↦
-        let s = split_units p (x.spelling ∷ []) us next hp (is, tt) all (cut ∙ ap (λ t. t ++ next) (sym (append-nil x.spelling))) in
-        let read = carry_quote q c x.spelling s.0 ws (meaning_of ps) hq hc unit (subst (λ t. AreAlike t ws) s.1 alike) others (λ behind alike' others'. carry p q ps s.0 behind hp hq parts.1 s.2 others' alike' s.3) in
-        subst (λ v. Reads q ws (v ++ meaning_of ps)) (sym value) read
+          let s = split_units p (x.spelling ∷ []) us next hp (is, tt) all (cut ∙ ap (λ t. t ++ next) (sym (append-nil x.spelling))) in
+          let read = carry_quote q c x.spelling s.0 ws (meaning_of ps) hq hc unit (subst (λ t. AreAlike t ws) s.1 alike) others (λ behind alike' others'. carry p q ps s.0 behind hp hq parts.1 s.2 others' alike' s.3) in
+          subst (λ v. Reads q ws (v ++ meaning_of ps)) (sym value) read
       | inr (units, are, spelled, fixed, again) ↦
-        let s = split_units p units us next hp are all (cut ∙ ap (λ t. t ++ next) spelled) in
-        let a = split_alike units s.0 ws fixed (subst (λ t. AreAlike t ws) s.1 alike) in
-        let behind = units_behind q units a.0 (q ∷ []) (subst (λ t. AreUnits q t (q ∷ [])) a.1 others) in
-        let rest = carry p q ps s.0 a.0 hp hq parts.1 s.2 behind a.2 s.3 in
-        let front = alike_front p q s.0 a.0 hp hq s.2 a.2 in
-        let is = again (joined a.0 ++ q ∷ []) (subst (λ t. HasSameFront t (joined a.0 ++ q ∷ [])) s.3 front) in
-        subst (λ t. Reads q t (x.value ++ meaning_of ps)) (sym a.1) (part_first q units a.0 x.spelling x.value (meaning_of ps) is spelled rest)
+          let s = split_units p units us next hp are all (cut ∙ ap (λ t. t ++ next) spelled) in
+          let a = split_alike units s.0 ws fixed (subst (λ t. AreAlike t ws) s.1 alike) in
+          let behind = units_behind q units a.0 (q ∷ []) (subst (λ t. AreUnits q t (q ∷ [])) a.1 others) in
+          let rest = carry p q ps s.0 a.0 hp hq parts.1 s.2 behind a.2 s.3 in
+          let front = alike_front p q s.0 a.0 hp hq s.2 a.2 in
+          let is = again (joined a.0 ++ q ∷ []) (subst (λ t. HasSameFront t (joined a.0 ++ q ∷ [])) s.3 front) in
+          subst (λ t. Reads q t (x.value ++ meaning_of ps)) (sym a.1) (part_first q units a.0 x.spelling x.value (meaning_of ps) is spelled rest)
     ]
 
 -- ---- requoted units
@@ -335,7 +336,7 @@ requoted_other : (q b : ℕ) → is_quote q ≡ true → b ≢ 122 → is_line_b
 requoted_other q b hq no_z no_line =
     elim (eqb b (other_quote q)) as (λ t. eqb b (other_quote q) ≡ t → IsAlike (92 ∷ b ∷ []) (cond t (b ∷ []) (92 ∷ b ∷ [])) × ((n : List ℕ) → IsUnit q (cond t (b ∷ []) (92 ∷ b ∷ [])) n)) [
       | true ↦ λ yes. let o = other_facts q hq in let same : b ≡ other_quote q = eqb-true b (other_quote q) yes in
-        (inr (b, ap is_quote same ∙ o.0, inr refl, inl refl), λ n. unit_rule.plain q b n (ap (is_plain q) same ∙ o.1))
+          (inr (b, ap is_quote same ∙ o.0, inr refl, inl refl), λ n. unit_rule.plain q b n (ap (is_plain q) same ∙ o.1))
       | false ↦ λ differs. (inl refl, λ n. unit_rule.other q b n no_z no_line)
     ] refl
 
@@ -392,3 +393,16 @@ short_requoted s q t hq (p, us, hp, cut, e) =
     let cut' : IsCut q ws t = (are_units p q us hp hq cut.0, e) in
     let alike = are_alike p q us (p ∷ []) hq cut.0 in
     ((ws, cut'), λ value. (value_carries p q s t us ws value hp hq cut cut' alike, value_carries q p t s ws us value hq hp cut' cut (alike_back us ws alike)))
+
+same_long : (s : List ℕ) (q : ℕ) (t : List ℕ) → IsLongSpelling s → t ≡ s → IsSameString s q t
+same_long s q t (n, body, long) e =
+    subst (IsSameString s q) (sym e) ((λ short. absurd (long_is_not_short short.0 s _ n body short.1 short.2.1.1 long)), λ value. (λ h. h, λ h. h))
+
+-- what requoting gives is the same string
+pub same_string : (s : List ℕ) (q : ℕ) (t : List ℕ) → is_quote q ≡ true → IsRequoted s q t → IsSameString s q t
+same_string s q t hq (inl x) = let r = short_requoted s q t hq x in (λ _. r.0, r.1)
+same_string s q t hq (inr x) = same_long s q t x.0 x.1
+
+pub quote_byte_is_quote : (q : Quote) → is_quote (quote_byte q) ≡ true
+quote_byte_is_quote Single = refl
+quote_byte_is_quote Double = refl

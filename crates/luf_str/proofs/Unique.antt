@@ -1,22 +1,19 @@
 -- A string has at most one value, and not both a value and a bad escape.
-use Rattle.std.proofs.Common.{◌≡◌, ◌≢◌, ℕ, suc, ◌+◌, ◌<◌, ◌≤◌, ◌⊎◌, Bool, true, false, List, [], ◌∷◌, ◌++◌, length, get_or, take, drop, Option, Some, None, refl, sym, ap, subst, ◌∙◌, arith, inl, inr, append_assoc}
-use Rattle.std.specs.Prelude.{IsTrue, IsFalse}
-use Rattle.std.specs.List.{flat_map}
-use Rattle.std.proofs.lemmas.Bool.{false≢true}
+use Rattle.std.proofs.Common.{◌≡◌, ◌≢◌, ℕ, ◌+◌, true, false, List, [], ◌∷◌, ◌++◌, length, get_or, take, drop, refl, sym, ap, subst, ◌∙◌, arith, inl, inr}
 use Rattle.std.proofs.lemmas.List.{append-nil}
 use Rattle.std.proofs.lemmas.Bool.Decides.{nat_tests}
 use Rattle.luf_str.specs.declared.escapes.Meaning.{Meaning}
 use Rattle.luf_str.specs.Bytes.{is_line_byte, is_quote, is_plain}
-use Rattle.luf_str.specs.Pieces.{AllInPlace, NoneAtFront, IsLineEnd}
+use Rattle.luf_str.specs.Pieces.{IsLineEnd}
 use Rattle.luf_str.specs.Escape.{IsEscape, NoEscape}
-use Rattle.luf_str.specs.Spelling.{IsUnit, joined, IsShortSpelling, IsLongOf}
+use Rattle.luf_str.specs.Spelling.{IsLongOf}
 use Rattle.luf_str.specs.Value.{IsPart, IsLongPart, Part, spelling_of, meaning_of, AreParts, AreLongParts, IsDropped, IsLongText, IsShortValue, IsLongValue, IsValue, FirstBad}
 use Rattle.luf_str.specs.Value as rule
-use Rattle.luf_str.specs.Reading.{bytes_of, line_end_length, escape_at, unit_length}
-use Rattle.luf_str.proofs.Leading.{line_end_length-is, first_line_byte}
+use Rattle.luf_str.specs.Reading.{bytes_of, line_end_length, escape_at}
+use Rattle.luf_str.proofs.Leading.{line_end_length-is}
 use Rattle.luf_str.proofs.InPlace.{same_cut, same_pieces, IsDetermined, NoPiece}
 use Rattle.luf_str.proofs.EscapeLaws.{complete, found}
-use Rattle.luf_str.proofs.UnitLaws.{unit_length-is, unit_begins, backslash_is_no_quote, plain_is_no_quote, quote_is_no_bracket}
+use Rattle.luf_str.proofs.UnitLaws.{backslash_is_no_quote, plain_is_no_quote, quote_is_no_bracket}
 use Rattle.luf_str.proofs.LongLaws.{level_is, long_length, body_is}
 
 -- ---- parts of short strings
@@ -76,7 +73,7 @@ no_part_at_bad q next none x m is e = part_is_not_bad next none is e
 
 -- two readings of one short string
 same_reading : (q : ℕ) (xs ys : List Part) (m n : List ℕ) → AreParts q xs m → AreParts q ys n → NoPiece (IsPartOf q) spelled m → NoPiece (IsPartOf q) spelled n
-  → q ∷ (spelling_of xs ++ m) ≡ q ∷ (spelling_of ys ++ n) → (xs ≡ ys) × (m ≡ n)
+    → q ∷ (spelling_of xs ++ m) ≡ q ∷ (spelling_of ys ++ n) → (xs ≡ ys) × (m ≡ n)
 same_reading q xs ys m n all others stop stop' e = same_pieces (IsPartOf q) spelled (parts_determined q) xs ys m n all others stop stop' (first_same q q (spelling_of xs ++ m) (spelling_of ys ++ n) e).1
 
 -- the quote is the first byte

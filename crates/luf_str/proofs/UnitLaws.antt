@@ -1,11 +1,11 @@
 -- The units of a short string: which one stands at the front, and what parts have to do with them.
-use Rattle.std.proofs.Common.{◌≡◌, ◌≢◌, ℕ, suc, ◌+◌, ◌<◌, ◌≤◌, ◌⊎◌, Bool, true, false, cond, eqb, ◌||◌, ◌&&◌, List, [], ◌∷◌, ◌++◌, length, get_or, take, drop, map, refl, sym, ap, subst, ◌∙◌, arith, inl, inr, append_assoc}
+use Rattle.std.proofs.Common.{◌≡◌, ◌≢◌, ℕ, suc, ◌+◌, ◌<◌, ◌≤◌, ◌⊎◌, Bool, true, false, cond, eqb, ◌&&◌, List, [], ◌∷◌, ◌++◌, length, get_or, map, refl, sym, ap, subst, ◌∙◌, arith, inl, inr, append_assoc}
 use Rattle.std.specs.Prelude.{IsTrue, IsFalse}
-use Rattle.std.specs.List.{AllByRecursion, prefix_len, flat_map}
+use Rattle.std.specs.List.{AllByRecursion, prefix_len}
 use Rattle.std.proofs.lemmas.Bool.{eqb-true, false≢true}
 use Rattle.std.proofs.lemmas.List.{append-nil, length-append}
 use Rattle.std.proofs.lemmas.Bool.Decides.{nat_tests}
-use Rattle.luf_str.specs.Bytes.{is_line_byte, is_line_pair, is_space, is_quote, is_plain, is_digit, is_hex_digit}
+use Rattle.luf_str.specs.Bytes.{is_line_byte, is_space, is_quote, is_plain, is_digit, is_hex_digit}
 use Rattle.luf_str.specs.Pieces.{AllInPlace, NoneAtFront, IsLineEnd}
 use Rattle.luf_str.specs.Escape.{IsEscape, letter_value}
 use Rattle.luf_str.specs.Escape as escape_rule
@@ -16,8 +16,7 @@ use Rattle.luf_str.specs.Value as part_rule
 use Rattle.luf_str.specs.Reading.{line_end_length, unit_length}
 use Rattle.luf_str.specs.Front.{IsEnd}
 use Rattle.luf_str.proofs.Leading.{prefix_len-whole, first_line_byte, line_end_length-is}
-use Rattle.luf_str.proofs.InPlace.{same_cut, in_place_join}
-use Rattle.std.proofs.lemmas.Grind.{flat_map-append}
+use Rattle.luf_str.proofs.InPlace.{same_cut}
 use Rattle.luf_str.proofs.EscapeLaws.{for_letters}
 
 pub quote_cases : (q : ℕ) → is_quote q ≡ true → (q ≡ 34) ⊎ (q ≡ 39)
@@ -42,7 +41,7 @@ when_true b x y h = rw h refl
 pub unit_length-is : {q : ℕ} {unit next : List ℕ} → IsUnit q unit next → unit_length (unit ++ next) ≡ length unit
 unit_length-is (unit_rule.plain q b next h) = let no : eqb b 92 ≡ false = grind (arith, nat_tests) in rw no refl
 unit_length-is (unit_rule.skip q spaces next all none) = let n : prefix_len is_space (spaces ++ next) ≡ length spaces = prefix_len-whole is_space spaces next all none in omega arith
-unit_length-is (unit_rule.line_end q line next h) = 
+unit_length-is (unit_rule.line_end q line next h) =
     let n : line_end_length (line ++ next) ≡ length line = line_end_length-is line next h in
     let more : 1 + line_end_length (line ++ next) ≡ suc (length line) = omega arith in
     rw (line_is_no_z line next h) (when_true _ _ _ (first_is line next h) ∙ more)

@@ -1,9 +1,7 @@
 -- Requoting a short string unit by unit.
-use Rattle.std.proofs.Common.{◌≡◌, ◌≢◌, ℕ, suc, ◌+◌, ◌<◌, ◌≤◌, ◌⊎◌, Bool, true, false, List, [], ◌∷◌, ◌++◌, length, get_or, take, drop, map, refl, sym, ap, subst, add-zero, ◌∙◌, arith, inl, inr, append_assoc}
-use Rattle.std.specs.Prelude.{IsTrue, IsFalse}
-use Rattle.std.specs.List.{flat_map}
+use Rattle.std.proofs.Common.{◌≡◌, ◌≢◌, ℕ, ◌+◌, ◌<◌, ◌≤◌, true, List, [], ◌∷◌, ◌++◌, length, get_or, take, drop, map, refl, sym, ap, subst, add-zero, ◌∙◌, arith, append_assoc}
 use Rattle.std.proofs.lemmas.Grind.{flat_map-append}
-use Rattle.std.proofs.lemmas.List.{append-nil, take-append-drop, length-append, length-take-le, drop-drop, take_at, drop_at, map_push, get_or-drop, length-drop}
+use Rattle.std.proofs.lemmas.List.{append-nil, length-append, drop-drop, take_at, drop_at, map_push, get_or-drop, length-drop}
 use Rattle.luf_str.specs.Bytes.{is_quote}
 use Rattle.luf_str.specs.Spelling.{IsUnit, joined, IsShortSpelling}
 use Rattle.luf_str.specs.Requote.{requoted_unit, IsShortRequoted}
@@ -29,7 +27,7 @@ one_more q p spelling done unit next r is rest =
     let spelled : joined (r.units ++ unit ∷ []) ≡ joined r.units ++ unit = flat_map-append (λ (u : List ℕ). u) r.units (unit ∷ []) ∙ ap (λ t. joined r.units ++ t) (append-nil unit) in
     let new : List ℕ = requoted_unit p unit in
     let meant : joined (map (requoted_unit p) (r.units ++ unit ∷ [])) ≡ joined (map (requoted_unit p) r.units) ++ new
-      = ap joined (map_push (requoted_unit p) r.units unit) ∙ flat_map-append (λ (u : List ℕ). u) (map (requoted_unit p) r.units) (new ∷ []) ∙ ap (λ t. joined (map (requoted_unit p) r.units) ++ t) (append-nil new) in
+    = ap joined (map_push (requoted_unit p) r.units unit) ∙ flat_map-append (λ (u : List ℕ). u) (map (requoted_unit p) r.units) (new ∷ []) ∙ ap (λ t. joined (map (requoted_unit p) r.units) ++ t) (append-nil new) in
     record {
       units = r.units ++ unit ∷ [];
       quote = r.quote;
@@ -42,7 +40,7 @@ one_more q p spelling done unit next r is rest =
 -- what is left begins with the unit of this length, where it does not begin with the quote
 abbrev StepsOver : ℕ → ℕ → List ℕ → List ℕ → List ℕ → Type 0
 StepsOver q p spelling done next = (unit_length next ≤ length next) × (0 < unit_length next)
-  × IsCutTo q p spelling (drop (unit_length next) next) (done ++ requoted_unit p (take (unit_length next) next))
+    × IsCutTo q p spelling (drop (unit_length next) next) (done ++ requoted_unit p (take (unit_length next) next))
 
 over_unit : (q p : ℕ) (spelling done unit next : List ℕ) → IsCutTo q p spelling (unit ++ next) done → IsUnit q unit next → IsRest q next → StepsOver q p spelling done (unit ++ next)
 over_unit q p spelling done unit next r is rest =
@@ -50,7 +48,7 @@ over_unit q p spelling done unit next r is rest =
     let behind : drop (length unit) (unit ++ next) ≡ next = drop_at unit next _ refl in
     let front : take (length unit) (unit ++ next) ≡ unit = take_at unit next _ refl in
     let whole : IsCutTo q p spelling (drop (length unit) (unit ++ next)) (done ++ requoted_unit p (take (length unit) (unit ++ next)))
-      = subst (λ t. IsCutTo q p spelling t (done ++ requoted_unit p (take (length unit) (unit ++ next)))) (sym behind) (subst (λ u. IsCutTo q p spelling next (done ++ requoted_unit p u)) (sym front) (one_more q p spelling done unit next r is rest)) in
+    = subst (λ t. IsCutTo q p spelling t (done ++ requoted_unit p (take (length unit) (unit ++ next)))) (sym behind) (subst (λ u. IsCutTo q p spelling next (done ++ requoted_unit p u)) (sym front) (one_more q p spelling done unit next r is rest)) in
     subst (λ n. (n ≤ length (unit ++ next)) × (0 < n) × IsCutTo q p spelling (drop n (unit ++ next)) (done ++ requoted_unit p (take n (unit ++ next)))) (sym k) (omega (arith, length-append unit next), unit_some is, whole)
 
 next_unit : (q p : ℕ) (spelling next done : List ℕ) (units : List (List ℕ)) → AreUnits q units (q ∷ []) → next ≡ joined units ++ q ∷ [] → IsCutTo q p spelling next done → get_or next 0 0 ≢ q → StepsOver q p spelling done next
@@ -60,12 +58,12 @@ next_unit q p spelling next done (u ∷ units) all e r no_quote =
     subst (StepsOver q p spelling done) (sym cut) (over_unit q p spelling done u (joined units ++ q ∷ []) (subst (λ t. IsCutTo q p spelling t done) cut r) all.0 (units, all.1, refl))
 
 pub cut_goes_on : (q p : ℕ) (spelling : List ℕ) (at n : ℕ) (done : List ℕ) → IsCutTo q p spelling (drop at spelling) done → get_or spelling at 0 ≢ q → n ≡ unit_length (drop at spelling)
-  → (n ≤ length (drop at spelling)) × (0 < n) × (at + n < length spelling) × IsCutTo q p spelling (drop (at + n) spelling) (done ++ requoted_unit p (take n (drop at spelling)))
+    → (n ≤ length (drop at spelling)) × (0 < n) × (at + n < length spelling) × IsCutTo q p spelling (drop (at + n) spelling) (done ++ requoted_unit p (take n (drop at spelling)))
 cut_goes_on q p spelling at n done r no_quote is =
     let first : get_or (drop at spelling) 0 0 ≡ get_or spelling at 0 = get_or-drop at spelling 0 0 ∙ ap (λ i. get_or spelling i 0) (add-zero at) in
     let stepped = next_unit q p spelling (drop at spelling) done r.rest.0 r.rest.1 r.rest.2 r (λ e. no_quote (sym first ∙ e)) in
     let step : (n ≤ length (drop at spelling)) × (0 < n) × IsCutTo q p spelling (drop n (drop at spelling)) (done ++ requoted_unit p (take n (drop at spelling)))
-      = subst (λ k. (k ≤ length (drop at spelling)) × (0 < k) × IsCutTo q p spelling (drop k (drop at spelling)) (done ++ requoted_unit p (take k (drop at spelling)))) (sym is) stepped in
+    = subst (λ k. (k ≤ length (drop at spelling)) × (0 < k) × IsCutTo q p spelling (drop k (drop at spelling)) (done ++ requoted_unit p (take k (drop at spelling)))) (sym is) stepped in
     let cut : IsCutTo q p spelling (drop (at + n) spelling) (done ++ requoted_unit p (take n (drop at spelling))) = subst (λ t. IsCutTo q p spelling t (done ++ requoted_unit p (take n (drop at spelling)))) (drop-drop n at spelling) step.2 in
     (step.0, step.1, omega (arith, rest_some q (drop (at + n) spelling) cut.rest, length-drop (at + n) spelling), cut)
 

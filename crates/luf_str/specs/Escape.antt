@@ -15,11 +15,11 @@ continuation code unit = 128 + code / unit % 64
 -- UTF-8 of one to six bytes, for codes below 2 ^ 31
 abbrev pub utf8 : ℕ → List ℕ
 utf8 n = if nat_lt n 0x80 then n ∷ []
-  else (if nat_lt n 0x800 then (0xC0 + n / 64) ∷ continuation n 1 ∷ []
-  else (if nat_lt n 0x10000 then (0xE0 + n / 64 ^ 2) ∷ continuation n 64 ∷ continuation n 1 ∷ []
-  else (if nat_lt n 0x200000 then (0xF0 + n / 64 ^ 3) ∷ continuation n (64 ^ 2) ∷ continuation n 64 ∷ continuation n 1 ∷ []
-  else (if nat_lt n 0x4000000 then (0xF8 + n / 64 ^ 4) ∷ continuation n (64 ^ 3) ∷ continuation n (64 ^ 2) ∷ continuation n 64 ∷ continuation n 1 ∷ []
-  else (0xFC + n / 64 ^ 5) ∷ continuation n (64 ^ 4) ∷ continuation n (64 ^ 3) ∷ continuation n (64 ^ 2) ∷ continuation n 64 ∷ continuation n 1 ∷ []))))
+    else (if nat_lt n 0x800 then (0xC0 + n / 64) ∷ continuation n 1 ∷ []
+    else (if nat_lt n 0x10000 then (0xE0 + n / 64 ^ 2) ∷ continuation n 64 ∷ continuation n 1 ∷ []
+    else (if nat_lt n 0x200000 then (0xF0 + n / 64 ^ 3) ∷ continuation n (64 ^ 2) ∷ continuation n 64 ∷ continuation n 1 ∷ []
+    else (if nat_lt n 0x4000000 then (0xF8 + n / 64 ^ 4) ∷ continuation n (64 ^ 3) ∷ continuation n (64 ^ 2) ∷ continuation n 64 ∷ continuation n 1 ∷ []
+    else (0xFC + n / 64 ^ 5) ∷ continuation n (64 ^ 4) ∷ continuation n (64 ^ 3) ∷ continuation n (64 ^ 2) ∷ continuation n 64 ∷ continuation n 1 ∷ []))))
 
 -- The bytes behind the backslash of an escape, where next follows, and the bytes that the escape stands for.
 pub data IsEscape : List ℕ → List ℕ → List ℕ → Type 0 where

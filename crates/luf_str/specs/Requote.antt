@@ -1,9 +1,10 @@
 -- A short string in other quotes (our own rule).
-use Rattle.std.specs.Prelude.{◌≡◌, ◌⊎◌, ℕ, ◌-◌, ◌==◌, List, [], ◌∷◌, ◌++◌, map, length, take, drop, IsTrue, if◌then◌else◌}
+use Rattle.std.specs.Prelude.{◌≡◌, ◌⊎◌, ◌↔◌, ℕ, ◌-◌, ◌==◌, List, [], ◌∷◌, ◌++◌, map, length, take, drop, IsTrue, if◌then◌else◌}
 use Rattle.luf_str.specs.declared.quoting.Quote.{Quote}
 use Rattle.luf_str.specs.declared.quoting.Quote.TheVariants.{Single, Double}
 use Rattle.luf_str.specs.Bytes.{is_quote}
-use Rattle.luf_str.specs.Spelling.{joined, IsCut, IsLongSpelling}
+use Rattle.luf_str.specs.Spelling.{joined, IsCut, IsShortIn, IsShortSpelling, IsLongSpelling}
+use Rattle.luf_str.specs.Value.{IsValue}
 
 abbrev pub quote_byte : Quote → ℕ
 quote_byte Single = 39
@@ -26,8 +27,12 @@ requoted_unit q unit = unit
 -- a short string whose units are requoted, between the quotes q
 abbrev pub IsShortRequoted : List ℕ → ℕ → List ℕ → Type 0
 IsShortRequoted spelling q requoted = (from : ℕ) × (units : List (List ℕ)) × IsTrue (is_quote from) × IsCut from units spelling
-  × (requoted ≡ q ∷ (joined (map (requoted_unit q) units) ++ q ∷ []))
+    × (requoted ≡ q ∷ (joined (map (requoted_unit q) units) ++ q ∷ []))
 
 -- a long string is kept
 abbrev pub IsRequoted : List ℕ → ℕ → List ℕ → Type 0
 IsRequoted spelling q requoted = IsShortRequoted spelling q requoted ⊎ (IsLongSpelling spelling × (requoted ≡ spelling))
+
+-- another spelling of the same string, of a short one in the quotes q
+abbrev pub IsSameString : List ℕ → ℕ → List ℕ → Type 0
+IsSameString spelling q other = (IsShortSpelling spelling → IsShortIn q other) × ((value : List ℕ) → IsValue spelling value ↔ IsValue other value)

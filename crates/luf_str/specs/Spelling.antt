@@ -40,7 +40,7 @@ closing n = 93 ∷ (replicate n 61 ++ 93 ∷ [])
 -- A long string of level n with this body: the closing bracket ends it where it first stands.
 abbrev pub IsLongOf : ℕ → List ℕ → List ℕ → Type 0
 IsLongOf n body spelling = (spelling ≡ opening n ++ (body ++ closing n))
-  × ((before after : List ℕ) → body ++ closing n ≡ before ++ (closing n ++ after) → after ≡ [])
+    × ((before after : List ℕ) → body ++ closing n ≡ before ++ (closing n ++ after) → after ≡ [])
 
 abbrev pub IsLongSpelling : List ℕ → Type 0
 IsLongSpelling spelling = (n : ℕ) × (body : List ℕ) × IsLongOf n body spelling

@@ -37,7 +37,7 @@ AreLongParts parts next = AllInPlace (λ (p : Part) following. IsLongPart p.spel
 -- a short string: the parts between the quotes, each with its value
 abbrev pub IsShortValue : List ℕ → List ℕ → Type 0
 IsShortValue spelling value = (q : ℕ) × (parts : List Part) × IsTrue (is_quote q)
-  × AreParts q parts (q ∷ []) × (spelling ≡ q ∷ (spelling_of parts ++ q ∷ [])) × (value ≡ meaning_of parts)
+    × AreParts q parts (q ∷ []) × (spelling ≡ q ∷ (spelling_of parts ++ q ∷ [])) × (value ≡ meaning_of parts)
 
 -- what stands before the first byte of a long string's value: its first line end, or nothing where it does not begin with one
 abbrev pub IsDropped : List ℕ → List ℕ → Type 0
@@ -47,7 +47,7 @@ IsDropped line next = IsLineEnd line next
 -- the body of a long string, without a line end at its front, and its value
 abbrev pub IsLongText : List ℕ → List ℕ → Type 0
 IsLongText body value = (dropped : List ℕ) × (parts : List Part) × (body ≡ dropped ++ spelling_of parts)
-  × IsDropped dropped (spelling_of parts) × AreLongParts parts [] × (value ≡ meaning_of parts)
+    × IsDropped dropped (spelling_of parts) × AreLongParts parts [] × (value ≡ meaning_of parts)
 
 abbrev pub IsLongValue : List ℕ → List ℕ → Type 0
 IsLongValue spelling value = (n : ℕ) × (body : List ℕ) × IsLongOf n body spelling × IsLongText body value
@@ -58,4 +58,4 @@ IsValue spelling value = IsShortValue spelling value ⊎ IsLongValue spelling va
 -- the place of the first backslash that begins no escape: all before it are parts
 abbrev pub FirstBad : List ℕ → ℕ → Type 0
 FirstBad spelling at = (q : ℕ) × (parts : List Part) × (next : List ℕ) × IsTrue (is_quote q)
-  × AreParts q parts (92 ∷ next) × NoEscape next × (spelling ≡ q ∷ (spelling_of parts ++ 92 ∷ next)) × (at ≡ 1 + length (spelling_of parts))
+    × AreParts q parts (92 ∷ next) × NoEscape next × (spelling ≡ q ∷ (spelling_of parts ++ 92 ∷ next)) × (at ≡ 1 + length (spelling_of parts))

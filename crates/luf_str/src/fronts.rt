@@ -31,10 +31,16 @@ pub fn front_of(text: &[u8], quote: u8) -> Front
         if first == quote || is_line_byte(first) {
             return Front::End;
         }
-        return Front::Part { length: 1, meaning: Meaning::Byte(first) };
+        return Front::Part {
+            length: 1,
+            meaning: Meaning::Byte(first),
+        };
     }
     match escape_at(tail(text, 1)) {
-        Some((length, meaning)) => Front::Part { length: 1 + length, meaning },
+        Some((length, meaning)) => Front::Part {
+            length: 1 + length,
+            meaning,
+        },
         None if text.len() == 1 => Front::LoneBackslash,
         None => Front::BadEscape,
     }

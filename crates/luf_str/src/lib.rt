@@ -7,10 +7,12 @@
 mod bytes;
 mod escapes;
 mod fronts;
+mod laws;
 mod quoting;
 mod values;
 
 pub use escapes::Meaning;
 pub use fronts::{Front, front_of};
+pub use laws::{one_bad_place, one_value, spellings_apart, value_or_bad, value_spelled};
 pub use quoting::{Counts, Quote, quotes, requote};
 pub use values::{StrErr, first_bad, value_of};

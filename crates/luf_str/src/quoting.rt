@@ -5,13 +5,11 @@ ghost use Rattle.luf_str.specs.Bytes.{is_quote};
 ghost use Rattle.luf_str.specs.Reading.{unit_length};
 ghost use Rattle.luf_str.specs.Spelling.{IsShortIn, IsShortSpelling, IsLongSpelling, IsSpelling};
 ghost use Rattle.luf_str.specs.Value.{IsValue};
-ghost use Rattle.luf_str.specs.Requote.{quote_byte, other_quote, inside, requoted_unit, IsShortRequoted, IsRequoted};
-
-use std::alloc::Global;
-
-use luf_memory::Memory;
+ghost use Rattle.luf_str.specs.Requote.{quote_byte, other_quote, inside, requoted_unit, IsShortRequoted, IsRequoted, IsSameString};
 
 use crate::bytes::{byte_at, head, is_line_byte, leading_spaces, line_end_length, tail};
+use luf_memory::Memory;
+use std::alloc::Global;
 
 /// The two quotes of short strings.
 #[derive(Clone, Copy, Debug, PartialEq, Eq)]
@@ -57,7 +55,10 @@ pub fn quotes(spelling: &[u8]) -> Counts
     ensures long { IsLongSpelling spelling.now → (result.single ≡ 0) × (result.double ≡ 0) }
 {
     if spelling[0] == b'[' {
-        return Counts { single: 0, double: 0 };
+        return Counts {
+            single: 0,
+            double: 0,
+        };
     }
     quotes_in(head(tail(spelling, 1), spelling.len() - 2))
 }
@@ -149,6 +150,8 @@ pub fn requote(_alloc: Global, spelling: &[u8], q: Quote, into: &mut Vec<u8>) ->
     requires spelling { IsSpelling spelling.now }
     requires size { length spelling.now < 2 ^ 32 }
     ensures ok { OnOk result ((requoted : List ℕ) × IsRequoted spelling.now (quote_byte q) requoted × (into.new.items ≡ into.old.items ++ requoted)) }
+    // The spelling has the same value, and that of a short string is in these quotes.
+    ensures same { OnOk result ((requoted : List ℕ) × IsSameString spelling.now (quote_byte q) requoted × (into.new.items ≡ into.old.items ++ requoted)) }
     ensures err { OnErr result (into.new.items ≡ into.old.items) }
 {
     let before = into.len();

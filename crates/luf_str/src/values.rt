@@ -6,13 +6,11 @@ ghost use Rattle.luf_str.specs.Reading.{bytes_of};
 ghost use Rattle.luf_str.specs.Spelling.{IsShortSpelling, IsLongSpelling, IsLongOf, IsSpelling};
 ghost use Rattle.luf_str.specs.Value.{IsShortValue, IsLongText, IsLongValue, IsValue, FirstBad};
 
-use std::alloc::{AllocError, AllocFailed, Global};
-
-use luf_memory::Memory;
-
 use crate::bytes::{head, leading_equals, line_end_length, tail};
 use crate::escapes::Meaning;
 use crate::fronts::{Front, front_of};
+use luf_memory::Memory;
+use std::alloc::{AllocError, AllocFailed, Global};
 
 /// Why a string has no value here.
 #[derive(Clone, Copy, Debug, PartialEq, Eq)]
@@ -25,6 +23,7 @@ pub enum StrErr {
 
 impl From<Memory> for StrErr {
     ghost use Rattle.luf_str.specs.declared.values.StrErr.TheVariants as errors;
+
     ghost from_gives = { λ _ e. e ≡ errors.Memory };
 
     fn from(_: Memory) -> StrErr {

@@ -1,4 +1,4 @@
-use Rattle.std.proofs.Common.{◌≡◌, ◌+◌, ◌≤◌, length, drop, Some, None, ap, sym, ◌∙◌, arith}
+use Rattle.std.proofs.Common.{◌≡◌, drop, Some, ap, sym, ◌∙◌, arith}
 use Rattle.luf_str.specs.Reading.{escape_at}
 use Rattle.luf_str.proofs.FrontLaws.{escape_front, bad_front}
 use Rattle.luf_str.proofs.fronts.front_of.Goals as goal

@@ -1,4 +1,4 @@
-use Rattle.std.proofs.Common.{◌≡◌, ◌+◌, ◌++◌, ◌∷◌, [], length, take, drop, ℕ, List, ap, sym, subst, ◌∙◌, arith, append_assoc}
+use Rattle.std.proofs.Common.{◌≡◌, ◌++◌, ◌∷◌, [], length, take, drop, ℕ, List, ap, ◌∙◌, arith, append_assoc}
 use Rattle.luf_str.specs.Reading.{unit_length}
 use Rattle.luf_str.specs.Requote.{quote_byte, requoted_unit}
 use Rattle.luf_str.proofs.UnitReading.{cut_goes_on, cut_ends}
@@ -27,6 +27,8 @@ loop-at-preserved c =
 pub returns-clause-ok : goal.returns-clause-ok
 returns-clause-ok c =
     let state = c.loop-at.invariant.1 in
-    let close : List ℕ = quote_byte c.args.quotes ∷ [] in
-    (state.0 ++ close, cut_ends _ _ c.args.spelling.now c.loop-at.at state.0 state.1 c.loop-at-test.false,
-      c.in_ok-push-2.ensures.items ∙ ap (λ b. c.loop-at.into.items ++ b ∷ []) c.byte-2.ensures ∙ ap (λ t. t ++ close) state.2 ∙ append_assoc c.args.into.now.items state.0 close)
+    let close : List ℕ = quote_byte c.args.quotes ∷ [] in (
+      state.0 ++ close,
+      cut_ends _ _ c.args.spelling.now c.loop-at.at state.0 state.1 c.loop-at-test.false,
+      c.in_ok-push-2.ensures.items ∙ ap (λ b. c.loop-at.into.items ++ b ∷ []) c.byte-2.ensures ∙ ap (λ t. t ++ close) state.2 ∙ append_assoc c.args.into.now.items state.0 close,
+    )

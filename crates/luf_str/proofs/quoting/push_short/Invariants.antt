@@ -1,4 +1,4 @@
-use Rattle.std.proofs.Common.{◌≡◌, ◌-◌, ◌<◌, ◌≤◌, ◌++◌, ◌∷◌, [], List, ℕ, length, drop}
+use Rattle.std.proofs.Common.{◌≡◌, ◌-◌, ◌<◌, ◌++◌, List, ℕ, length, drop}
 use Rattle.luf_str.specs.Requote.{quote_byte}
 use Rattle.luf_str.proofs.UnitReading.{IsCutTo}
 use Rattle.luf_str.proofs.quoting.push_short.Given as goal

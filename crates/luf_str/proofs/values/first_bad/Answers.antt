@@ -1,4 +1,4 @@
-use Rattle.std.proofs.Common.{◌++◌, get_or, drop, subst, arith, length-drop, ℕ, List}
+use Rattle.std.proofs.Common.{◌++◌, get_or, subst, arith, length-drop, ℕ, List}
 use Rattle.luf_str.specs.declared.fronts.Front.TheVariants as front
 use Rattle.luf_str.specs.Reading.{bytes_of}
 use Rattle.luf_str.specs.Front.{IsFront, IsEnd}

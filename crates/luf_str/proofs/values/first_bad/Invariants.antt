@@ -1,4 +1,4 @@
-use Rattle.std.proofs.Common.{◌≡◌, ◌-◌, ◌≤◌, List, ℕ, length, drop}
+use Rattle.std.proofs.Common.{◌-◌, ◌≤◌, List, ℕ, length, drop}
 use Rattle.luf_str.proofs.PartLaws.{IsReadTo}
 use Rattle.luf_str.proofs.values.first_bad.Given as goal
 

@@ -1,4 +1,4 @@
-use Rattle.std.proofs.Common.{◌≡◌, ◌+◌, ◌-◌, length, take, drop, ℕ, List, ap, sym, ◌∙◌, arith, length-drop}
+use Rattle.std.proofs.Common.{◌≡◌, ◌+◌, ◌-◌, length, take, drop, ℕ, List, ap, ◌∙◌, arith, length-drop}
 use Rattle.luf_str.proofs.LongLaws.{level_fits}
 use Rattle.luf_str.proofs.values.long_body.Goals as goal
 
@@ -19,4 +19,4 @@ returns c = λ n body long.
     let spelling : List ℕ = c.args.spelling.now in
     let short : length c.tail-inner.result.now ≡ length spelling - bracket = ap length c.tail-inner.ensures ∙ length-drop bracket spelling in
     c.head.ensures ∙ ap (λ t. take (length c.tail-inner.result.now - bracket) t) c.tail-inner.ensures ∙ ap (λ k. take (k - bracket) (drop bracket spelling)) short
-      ∙ (level_fits spelling _ _ c.requires c.tail.ensures c.leading_equals-bracket.ensures).1 n body long
+    ∙ (level_fits spelling _ _ c.requires c.tail.ensures c.leading_equals-bracket.ensures).1 n body long

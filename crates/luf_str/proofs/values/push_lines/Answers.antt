@@ -1,4 +1,4 @@
-use Rattle.std.proofs.Common.{◌≡◌, ◌<◌, ◌+◌, ◌++◌, [], ◌∷◌, get_or, length, drop, take, subst, ap, sym, ◌∙◌, append_assoc, arith, length-drop, ℕ, List, add-zero}
+use Rattle.std.proofs.Common.{◌≡◌, ◌++◌, [], ◌∷◌, get_or, length, drop, take, subst, ap, sym, ◌∙◌, append_assoc, arith, length-drop, ℕ, List, add-zero}
 use Rattle.std.proofs.lemmas.List.{append-nil, get_or-drop}
 use Rattle.luf_str.specs.Value.{IsLongPart}
 use Rattle.luf_str.specs.Reading.{line_end_length}
@@ -28,9 +28,10 @@ loop-at-preserved c =
     let state = c.loop-at.invariant.1 in
     let n : ℕ = c.line_end_length-line.result in
     let is : n ≡ line_end_length (drop at body) = c.line_end_length-line.ensures.value ∙ ap line_end_length c.tail.ensures in
-    let part = subst (λ k. IsLongPart (take k (drop at body)) (drop k (drop at body)) (10 ∷ [])) (sym is) (long_line (drop at body) (omega arith)) in
-    (omega (arith, c.line_end_length-line.ensures.bound, ap length c.tail.ensures, length-drop at body),
-      (state.0 ++ 10 ∷ [], long_goes_on body state.0 at n (10 ∷ []) state.1 part, c.in_ok-push-2.ensures.items ∙ ap (λ t. t ++ 10 ∷ []) state.2 ∙ append_assoc c.args.into.now.items state.0 (10 ∷ [])))
+    let part = subst (λ k. IsLongPart (take k (drop at body)) (drop k (drop at body)) (10 ∷ [])) (sym is) (long_line (drop at body) (omega arith)) in (
+      omega (arith, c.line_end_length-line.ensures.bound, ap length c.tail.ensures, length-drop at body),
+      (state.0 ++ 10 ∷ [], long_goes_on body state.0 at n (10 ∷ []) state.1 part, c.in_ok-push-2.ensures.items ∙ ap (λ t. t ++ 10 ∷ []) state.2 ∙ append_assoc c.args.into.now.items state.0 (10 ∷ [])),
+    )
 
 pub returns-clause-ok : goal.returns-clause-ok
 returns-clause-ok c = let state = c.loop-at.invariant.1 in (state.0, long_ends _ _ _ state.1 (omega (arith, length-drop c.loop-at.at c.args.body.now)), state.2)

@@ -1,4 +1,4 @@
-use Rattle.std.proofs.Common.{◌≡◌, ◌++◌, get_or, drop, subst, ap, sym, ◌∙◌, append_assoc, arith, length-drop, ℕ, List}
+use Rattle.std.proofs.Common.{◌++◌, get_or, subst, ap, ◌∙◌, append_assoc, arith, length-drop, ℕ, List}
 use Rattle.luf_str.specs.declared.fronts.Front.TheVariants as front
 use Rattle.luf_str.specs.Reading.{bytes_of}
 use Rattle.luf_str.specs.Front.{IsFront, IsEnd}
@@ -10,10 +10,14 @@ parts-preserved c =
     let s : List ℕ = c.args.spelling.now in
     let state = c.parts.invariant.1 in
     let value : List ℕ = bytes_of c.in-Part.meaning in
-    let part = subst (λ t. IsFront (get_or s 0 0) t (front.Part c.in-Part.length c.in-Part.meaning)) c.tail.ensures c.in-Part.ensures in
-    (omega (arith, part.1, length-drop c.parts.at s),
-      (state.0 ++ value, goes_on _ s c.parts.at state.0 c.in-Part.length _ state.1 part.1 part.2,
-        c.in_ok-push_meaning-in-Part.ensures.ok ∙ ap (λ t. t ++ value) state.2 ∙ append_assoc c.args.into.now.items state.0 value))
+    let part = subst (λ t. IsFront (get_or s 0 0) t (front.Part c.in-Part.length c.in-Part.meaning)) c.tail.ensures c.in-Part.ensures in (
+      omega (arith, part.1, length-drop c.parts.at s),
+      (
+        state.0 ++ value,
+        goes_on _ s c.parts.at state.0 c.in-Part.length _ state.1 part.1 part.2,
+        c.in_ok-push_meaning-in-Part.ensures.ok ∙ ap (λ t. t ++ value) state.2 ∙ append_assoc c.args.into.now.items state.0 value,
+      ),
+    )
 
 pub returns-in-End-clause-ok : goal.returns-in-End-clause-ok
 returns-in-End-clause-ok c =
