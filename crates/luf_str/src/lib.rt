@@ -9,6 +9,8 @@ mod escapes;
 mod fronts;
 mod laws;
 mod quoting;
+#[cfg(test)]
+mod tests;
 mod values;
 
 pub use escapes::Meaning;

@@ -81,7 +81,7 @@ fn quotes_in(text: &[u8]) -> Counts
 }
 
 /// How many bytes the unit of a short string at the front has.
-fn unit_length(text: &[u8]) -> usize
+pub fn unit_length(text: &[u8]) -> usize
     ensures { result ≡ unit_length text.now }
 {
     if byte_at(text, 0) != b'\\' {
