@@ -10,3 +10,4 @@ pub mod UnitReading
 pub mod Unique
 pub mod Requoting
 pub mod Apart
+pub mod Spelled

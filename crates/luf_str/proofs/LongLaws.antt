@@ -16,14 +16,14 @@ use Rattle.luf_str.proofs.UnitLaws.{when_true}
 
 -- ---- the brackets
 
-all_equals : (n : ℕ) → AllByRecursion (λ b. IsTrue (b == 61)) (replicate n 61)
+pub all_equals : (n : ℕ) → AllByRecursion (λ b. IsTrue (b == 61)) (replicate n 61)
 all_equals zero = tt
 all_equals (suc n) = (refl, all_equals n)
 
 pub opening_length : (n : ℕ) → length (opening n) ≡ n + 2
 opening_length n = omega (arith, length-append {A = ℕ} (replicate n 61) (91 ∷ []), length-replicate {A = ℕ} n 61)
 
-closing_length : (n : ℕ) → length (closing n) ≡ n + 2
+pub closing_length : (n : ℕ) → length (closing n) ≡ n + 2
 closing_length n = omega (arith, length-append {A = ℕ} (replicate n 61) (93 ∷ []), length-replicate {A = ℕ} n 61)
 
 -- the level is read off the front, and the body by its length

@@ -4,7 +4,7 @@ ghost use Rattle.std.specs.Prelude.{◌≡◌, ℕ, List, ◌++◌, ◌<◌, ◌
 ghost use Rattle.luf_str.specs.Spelling.{closing, IsShortSpelling, IsLongSpelling, IsSpelling};
 
 use super::*;
-use crate::bytes::{is_line_byte, leading_equals, tail};
+use crate::bytes::{byte_at, is_line_byte, leading_equals, tail};
 use crate::quoting::unit_length;
 use std::alloc::Global;
 use std::process::Abort;
@@ -34,32 +34,36 @@ fn is_short(text: &[u8]) -> bool
 fn closes(text: &[u8], level: usize) -> bool
     ensures { IsTrue result ↔ ((behind : List ℕ) × (text.now ≡ closing level ++ behind)) }
 {
-    if text.is_empty() || text[0] != b']' {
+    if byte_at(text, 0) != b']' {
         return false;
     }
     let behind = tail(text, 1);
     let count = leading_equals(behind);
-    count == level && count < behind.len() && behind[count] == b']'
+    let last = byte_at(behind, level);
+    count == level && last == b']'
 }
 
 /// Whether the bytes are a long string.
 fn is_long(text: &[u8]) -> bool
     ensures { IsTrue result → IsLongSpelling text.now }
 {
-    if text.is_empty() || text[0] != b'[' {
+    if byte_at(text, 0) != b'[' {
         return false;
     }
     let behind = tail(text, 1);
     let level = leading_equals(behind);
-    if level >= behind.len() || behind[level] != b'[' {
+    if byte_at(behind, level) != b'[' {
         return false;
     }
     let inner = tail(behind, level + 1);
     let mut at = 0;
-    while at < inner.len() && !closes(tail(inner, at), level) {
+    while at < inner.len() {
+        if closes(tail(inner, at), level) {
+            return at + level + 2 == inner.len();
+        }
         at += 1;
     }
-    at < inner.len() && at + level + 2 == inner.len()
+    false
 }
 
 fn is_spelling(text: &[u8]) -> bool
