@@ -1,0 +1,13 @@
+pub mod Numbers
+pub mod Leading
+pub mod EscapeLaws
+pub mod FrontLaws
+pub mod InPlace
+pub mod UnitLaws
+pub mod PartLaws
+pub mod LongLaws
+pub mod UnitReading
+pub mod Unique
+pub mod Requoting
+pub mod Apart
+pub mod Spelled
