@@ -1,4 +1,0 @@
-pub mod FirstLemmas
-pub mod TokenLemmas
-pub mod CutLemmas
-pub mod OneCut

@@ -1,13 +1,10 @@
 //! The pieces of a source: its tokens and what lies between them, each with its place.
 #![tactic(auto)]
 
-mod byte;
-mod cutting;
-mod first;
-mod pieces;
+mod fault;
 mod token;
 mod word;
 
-pub use cutting::{LexErr, cut, one_cut};
-pub use pieces::Cut;
-pub use token::{Kind, Piece, Sign, Span, Tok, Word};
+pub use fault::{LexErr, LexWhat};
+pub use luf_text::Span;
+pub use token::{Kind, Piece, Sign, Tok, Word};

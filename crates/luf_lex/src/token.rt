@@ -1,7 +1,5 @@
 // What a piece of source is, and where it lies.
-ghost use Rattle.std.specs.Prelude.{◌≡◌};
-ghost use Rattle.luf_lex.specs.Tokens as tokens;
-
+use luf_text::Span;
 /// A keyword (Lua 5.4 manual, 3.1).
 #[derive(Clone, Copy, Debug, PartialEq, Eq)]
 pub enum Word {
@@ -93,25 +91,9 @@ pub enum Kind {
     Mark,
 }
 
-/// The bytes `from..to` of a source.
-#[derive(Clone, Copy, Debug, PartialEq, Eq)]
-pub struct Span {
-    pub from: u32,
-    pub to: u32,
-}
-
 /// A piece of a source.
 #[derive(Clone, Copy, Debug, PartialEq, Eq)]
 pub struct Piece {
     pub kind: Kind,
     pub span: Span,
-}
-
-impl Kind {
-    /// Whether it is a token.
-    pub fn is_token(self) -> bool
-        ensures { result ≡ tokens.is_token self }
-    {
-        matches!(self, Kind::Token(_))
-    }
 }
