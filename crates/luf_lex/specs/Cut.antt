@@ -4,6 +4,8 @@ use Rattle.std.specs.List.{prefix_len, starts_with}
 use Rattle.luf_lex.specs.Byte.{in_line, begins}
 use Rattle.luf_lex.specs.First.{IsFirst, IsFault}
 use Rattle.luf_lex.specs.declared.fault.LexWhat.{LexWhat}
+use Rattle.luf_lex.specs.declared.fault.LexErr.{LexErr}
+use Rattle.luf_lex.specs.declared.fault.LexErr.TheVariants.{Bad, Memory}
 use Rattle.luf_lex.specs.declared.token.Kind.TheVariants.{HashLine, Mark}
 use Rattle.luf_lex.specs.declared.token.Piece.{Piece}
 
@@ -41,3 +43,8 @@ pub record IsLexFault (source : List ℕ) (at : ℕ) (what : LexWhat) : Type 0 w
   pub pieces : List Piece
   pub before : Cuts source (head_end source) pieces at
   pub fault : IsFault (drop at source) what
+
+-- the cause of an error
+abbrev pub IsCause : List ℕ → LexErr → Type 0
+IsCause source (Bad at what) = IsLexFault source at what
+IsCause source Memory = Unit {0}

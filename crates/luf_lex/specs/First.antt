@@ -70,14 +70,14 @@ numeral_length text =
     if begins_hexadecimal text then 2 + numeral_tail is_binary_mark (drop 2 text)
     else 1 + numeral_tail is_decimal_mark (drop 1 text)
 
--- The first n bytes of a text are its first piece: they spell this kind, which is tried there, and no longer
--- front of the text spells any that is. A numeral is as long as the scan goes.
+-- The first n bytes of a text are its first piece: they spell this kind, which is tried there. No longer front of
+-- the text spells any that is; but a numeral is as long as the scan goes.
 pub record IsFirst (text : List ℕ) (kind : Kind) (n : ℕ) : Type 0 where
   pub some : 0 < n
   pub within : n ≤ length text
   pub tried : is_tried (group_of text) kind ≡ true
   pub spelled : Spells kind (take n text)
-  pub longest : (other : Kind) (m : ℕ) → is_tried (group_of text) other ≡ true → n < m → m ≤ length text → Spells other (take m text) → ⊥
+  pub longest : group_of text ≢ Numeric → (other : Kind) (m : ℕ) → is_tried (group_of text) other ≡ true → n < m → m ≤ length text → Spells other (take m text) → ⊥
   pub numeral : group_of text ≡ Numeric → n ≡ numeral_length text
 
 -- no piece begins the text

@@ -1,5 +1,5 @@
 -- How signs are spelled (Lua 5.4 manual, 3.1).
-use Rattle.std.specs.Prelude.{ℕ, List, codes}
+use Rattle.std.specs.Prelude.{◌≡◌, ℕ, List, length, take, codes}
 use Rattle.luf_lex.specs.declared.token.Sign.{Sign}
 use Rattle.luf_lex.specs.declared.token.Sign.TheVariants.{Plus, Minus, Star, Slash, Percent, Caret, Hash, Amp, Tilde, Bar, ShiftLeft, ShiftRight, SlashSlash, Equal, NotEqual, LessEqual, GreaterEqual, Less, Greater, Assign, LeftParen, RightParen, LeftBrace, RightBrace, LeftBracket, RightBracket, DoubleColon, Semicolon, Colon, Comma, Dot, DotDot, Dots}
 
@@ -37,3 +37,7 @@ sign_spelling Comma = codes ","
 sign_spelling Dot = codes "."
 sign_spelling DotDot = codes ".."
 sign_spelling Dots = codes "..."
+
+-- the text begins with this
+abbrev pub Begins : List ℕ → List ℕ → Type 0
+Begins text front = take (length front) text ≡ front

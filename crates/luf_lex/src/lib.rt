@@ -1,7 +1,12 @@
 //! The pieces of a source: its tokens and what lies between them, each with its place.
 #![tactic(auto)]
 
+mod byte;
+mod group;
+mod numeral;
+mod plain;
 mod fault;
+mod sign;
 mod token;
 mod word;
 

@@ -1,0 +1,12 @@
+use Rattle.std.proofs.Common.{length, sym, ◌∙◌, arith}
+use Rattle.std.proofs.lemmas.List.Sums.{prefix_len_is}
+use Rattle.luf_lex.specs.Byte.{is_blank}
+use Rattle.luf_lex.proofs.byte.blank_run.Goals as goal
+
+pub returns-then-not-is_blank : goal.returns-then-not-is_blank
+returns-then-not-is_blank c =
+    sym (prefix_len_is is_blank c.args.text.now c.loop-i.i 0 (omega arith) c.loop-i.invariant (λ _. sym c.is_blank.ensures ∙ c.if-not-is_blank.true))
+
+pub returns : goal.returns
+returns c =
+    sym (prefix_len_is is_blank c.args.text.now (length c.args.text.now) 0 (omega arith) (λ k h. c.loop-i.invariant k (omega arith)) (λ h. absurd (omega arith)))

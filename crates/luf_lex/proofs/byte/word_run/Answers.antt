@@ -1,0 +1,12 @@
+use Rattle.std.proofs.Common.{length, sym, ◌∙◌, arith}
+use Rattle.std.proofs.lemmas.List.Sums.{prefix_len_is}
+use Rattle.luf_lex.specs.Byte.{is_word_byte}
+use Rattle.luf_lex.proofs.byte.word_run.Goals as goal
+
+pub returns-then-not-is_word_byte : goal.returns-then-not-is_word_byte
+returns-then-not-is_word_byte c =
+    sym (prefix_len_is is_word_byte c.args.text.now c.loop-i.i 0 (omega arith) c.loop-i.invariant (λ _. sym c.is_word_byte.ensures ∙ c.if-not-is_word_byte.true))
+
+pub returns : goal.returns
+returns c =
+    sym (prefix_len_is is_word_byte c.args.text.now (length c.args.text.now) 0 (omega arith) (λ k h. c.loop-i.invariant k (omega arith)) (λ h. absurd (omega arith)))
