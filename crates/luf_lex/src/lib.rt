@@ -2,9 +2,11 @@
 #![tactic(auto)]
 
 mod fault;
+mod pieces;
 mod token;
 mod word;
 
 pub use fault::{LexErr, LexWhat};
 pub use luf_text::Span;
+pub use pieces::Cut;
 pub use token::{Kind, Piece, Sign, Tok, Word};
