@@ -1,3 +1,5 @@
 pub mod RunLemmas
 pub mod PlainLemmas
 pub mod NumeralLemmas
+pub mod TokenLemmas
+pub mod SpellingLemmas

@@ -1,5 +1,9 @@
 // What a piece of source is, and where it lies.
+ghost use Rattle.std.specs.Prelude.{◌≡◌};
+ghost use Rattle.luf_lex.specs.Tokens as tokens;
+
 use luf_text::Span;
+
 /// A keyword (Lua 5.4 manual, 3.1).
 #[derive(Clone, Copy, Debug, PartialEq, Eq)]
 pub enum Word {
@@ -96,4 +100,13 @@ pub enum Kind {
 pub struct Piece {
     pub kind: Kind,
     pub span: Span,
+}
+
+impl Kind {
+    /// Whether it is a token.
+    pub fn is_token(self) -> bool
+        ensures { result ≡ tokens.is_token self }
+    {
+        matches!(self, Kind::Token(_))
+    }
 }

@@ -1,0 +1,118 @@
+// The pieces of a source, with an index of the tokens among them.
+ghost use Rattle.std.specs.Prelude.{◌≡◌, ◌≤◌, ◌↔◌, length, slice_get, IfOk, IsTrue};
+ghost use Rattle.std.specs.Option.{option_copied};
+ghost use Rattle.luf_lex.specs.Cut.{IsCut};
+ghost use Rattle.luf_lex.specs.Tokens.{toks_of, spans_of, spellings_of, tokens_of, token_places, IsIndex};
+
+use crate::{Kind, Piece, Span, Tok};
+use luf_memory::Memory;
+use std::alloc::Global;
+use std::marker::Model;
+
+/// The pieces of a source, in order. A contract sees it as their list.
+#[derive(Debug, Drop)]
+pub struct Cut {
+    pieces: Vec<Piece>,
+    /// The places of the tokens among the pieces.
+    tokens: Vec<u32>,
+}
+
+impl Model for Cut {
+    ghost use Rattle.std.specs.Prelude.{List};
+    ghost use Rattle.luf_lex.specs.declared.token.Piece.{Piece};
+
+    ghost Value = { List Piece };
+
+    ghost use Rattle.luf_lex.specs.Tokens.{IsIndex};
+
+    ghost view = { λ c. c.pieces.items };
+
+    ghost invariant = { λ c. IsIndex c.tokens.items c.pieces.items };
+}
+
+impl Cut {
+    /// The pieces with their index. The only error is that no memory was found.
+    pub(crate) fn of(alloc: Global, pieces: Vec<Piece>) -> Result<Cut, Memory>
+        requires { length pieces.items ≤ 16777216 }
+        ensures { IfOk result (λ cut. cut ≡ pieces.items) }
+    {
+        let tokens = token_index(alloc, pieces.as_slice())?;
+        Ok(Cut { pieces, tokens })
+    }
+
+    /// The pieces, in order.
+    pub fn pieces(&self) -> &[Piece]
+        ensures { result.now ≡ self.now }
+    {
+        self.pieces.as_slice()
+    }
+
+    /// How many tokens there are.
+    pub fn tokens(&self) -> u32
+        ensures count { result ≡ length (toks_of self.now) }
+        ensures few { result ≤ 16777216 }
+    {
+        self.tokens.len() as u32
+    }
+
+    /// Token `n`, from 0; None exactly from `tokens` on.
+    pub fn token(&self, n: u32) -> Option<Tok>
+        ensures { result ≡ slice_get (toks_of self.now) n }
+    {
+        match self.piece_of(n)?.kind {
+            Kind::Token(tok) => Some(tok),
+            _ => None,
+        }
+    }
+
+    /// Whether token `n` is there and is this one.
+    pub fn is_at(&self, n: u32, tok: Tok) -> bool
+        ensures { IsTrue result ↔ (slice_get (toks_of self.now) n ≡ Some tok) }
+    {
+        self.token(n) == Some(tok)
+    }
+
+    /// Where token `n` lies in the source; None exactly from `tokens` on.
+    pub fn span(&self, n: u32) -> Option<Span>
+        ensures { result ≡ slice_get (spans_of self.now) n }
+    {
+        Some(self.piece_of(n)?.span)
+    }
+
+    /// How token `n` is spelled in the source that was cut; None exactly from `tokens` on.
+    pub fn spelling<'a>(&self, src: &'a [u8], n: u32) -> Option<&'a [u8]>
+        requires { IsCut src.now self.now }
+        ensures { option_copied result ≡ slice_get (spellings_of src.now self.now) n }
+    {
+        let span = self.span(n)?;
+        let from = span.from as usize;
+        let to = span.to as usize;
+        Some(&src[from..to])
+    }
+
+    fn piece_of(&self, n: u32) -> Option<Piece>
+        ensures { result ≡ slice_get (tokens_of self.now) n }
+    {
+        let n = n as usize;
+        if n < self.tokens.len() {
+            let place = self.tokens[n] as usize;
+            Some(self.pieces[place])
+        } else {
+            None
+        }
+    }
+}
+
+/// The places of the tokens among the pieces.
+fn token_index(alloc: Global, pieces: &[Piece]) -> Result<Vec<u32>, Memory>
+    requires { length pieces.now ≤ 16777216 }
+    ensures { IfOk result (λ tokens. tokens.items ≡ token_places 0 pieces.now) }
+{
+    let mut tokens = Vec::new(alloc);
+    for (place, piece) in pieces.iter().enumerate() {
+        if piece.kind.is_token() {
+            tokens.push(place as u32)?;
+        }
+    }
+    Ok(tokens)
+}
