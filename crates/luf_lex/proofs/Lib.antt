@@ -3,3 +3,4 @@ pub mod PlainLemmas
 pub mod NumeralLemmas
 pub mod TokenLemmas
 pub mod SpellingLemmas
+pub mod CutLemmas

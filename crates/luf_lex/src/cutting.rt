@@ -92,7 +92,8 @@ fn hash_len(text: &[u8]) -> usize
 
 /// How many bytes stand before the first line end.
 fn line_run(text: &[u8]) -> usize
-    ensures { result ≡ prefix_len in_line text.now }
+    ensures run { result ≡ prefix_len in_line text.now }
+    ensures within { result ≤ length text.now }
 {
     for (i, b) in text.iter().enumerate() {
         if is_line_byte(*b) {

@@ -1,5 +1,6 @@
 // Why a source has no cut.
 use luf_memory::Memory;
+use std::alloc::AllocFailed;
 
 /// Why no piece begins at a place.
 #[derive(Clone, Copy, Debug, PartialEq, Eq)]
@@ -32,6 +33,17 @@ impl From<Memory> for LexErr {
     ghost from_gives = { λ _ e. e ≡ Memory };
 
     fn from(_: Memory) -> LexErr {
+        LexErr::Memory
+    }
+}
+
+impl<T: Drop> From<AllocFailed<T>> for LexErr {
+    ghost use Rattle.std.specs.Prelude.{◌≡◌};
+    ghost use Rattle.luf_lex.specs.declared.fault.LexErr.TheVariants.{Memory};
+
+    ghost from_gives = { λ _ e. e ≡ Memory };
+
+    fn from(_: AllocFailed<T>) -> LexErr {
         LexErr::Memory
     }
 }
