@@ -77,7 +77,7 @@ pub keyword_letter : (text : List ℕ) (w : Keyword) → word_spelling w ≡ tex
 keyword_letter text w e = subst (λ t. begins is_letter t ≡ true) e (word_begins w)
 
 -- of the kinds that are tried, what is spelled with a letter first has letters and digits alone
-word_spelled : (kind : Kind) (text : List ℕ) → is_tried Other kind ≡ true → Spells kind text → begins is_word_byte text ≡ true → list_all is_word_byte text ≡ true
+pub word_spelled : (kind : Kind) (text : List ℕ) → is_tried Other kind ≡ true → Spells kind text → begins is_word_byte text ≡ true → list_all is_word_byte text ≡ true
 word_spelled (Token Name) text tried h g = h.each
 word_spelled (Token (Word w)) text tried h g = subst (λ t. list_all is_word_byte t ≡ true) h (all_weaker is_letter is_word_byte letter_is_word (word_spelling w) (word_letters w))
 word_spelled (Token (Sign s)) text tried h g = absurd (sign_apart is_word_byte s text (sign_no_word s) h g)
@@ -125,7 +125,7 @@ plain_first text kind n group tried some within spelled longest = record {
 }
 
 -- a run of bytes of one class is the first piece, where what is spelled with such a byte first has no others
-run_first : (p : ℕ → Bool) → ((other : Kind) (t : List ℕ) → is_tried Other other ≡ true → Spells other t → begins p t ≡ true → list_all p t ≡ true) → (text : List ℕ) (kind : Kind) (n : ℕ)
+pub run_first : (p : ℕ → Bool) → ((other : Kind) (t : List ℕ) → is_tried Other other ≡ true → Spells other t → begins p t ≡ true → list_all p t ≡ true) → (text : List ℕ) (kind : Kind) (n : ℕ)
   → group_of text ≡ Other → is_tried Other kind ≡ true → begins p text ≡ true → n ≡ prefix_len p text → Spells kind (take n text) → IsFirst text kind n
 run_first p closed text kind n group tried first run spelled =
     plain_first text kind n group tried (omega (arith, run_some p text first)) (omega (arith, prefix_len-le-length p text)) spelled

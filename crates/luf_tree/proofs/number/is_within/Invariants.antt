@@ -1,6 +1,6 @@
 use Rattle.std.proofs.Common.{◌≡◌, ◌≤◌, take}
 use Rattle.luf_tree.specs.Number.{digits_value}
-use Rattle.luf_tree.proofs.number.is_small.Given as goal
+use Rattle.luf_tree.proofs.number.is_within.Given as goal
 
 -- the value of the digits so far, which is small
 abbrev pub invariant-loop-d : goal.invariant-loop-d

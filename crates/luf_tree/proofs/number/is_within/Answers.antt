@@ -1,6 +1,6 @@
 use Rattle.std.proofs.Common.{◌+◌, arith, rules}
 use Rattle.luf_tree.proofs.NumberLemmas.{front_value_le, value_more}
-use Rattle.luf_tree.proofs.number.is_small.Goals as goal
+use Rattle.luf_tree.proofs.number.is_within.Goals as goal
 
 pub returns-then-value-digit : goal.returns-then-value-digit
 returns-then-value-digit c =
