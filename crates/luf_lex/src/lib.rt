@@ -1,6 +1,7 @@
 //! The pieces of a source: its tokens and what lies between them, each with its place.
 #![tactic(auto)]
 
+mod bracket;
 mod fault;
 mod token;
 mod word;
