@@ -1,1 +1,4 @@
 pub mod BracketLemmas
+pub mod LoneKind
+pub mod StringLemmas
+pub mod CommentLemmas

@@ -2,7 +2,9 @@
 #![tactic(auto)]
 
 mod bracket;
+mod comment;
 mod fault;
+mod string;
 mod token;
 mod word;
 
