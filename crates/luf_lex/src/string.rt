@@ -1,7 +1,7 @@
 // Strings, in long brackets and in quotes (Lua 5.4 manual, 3.1).
-ghost use Rattle.std.specs.Prelude.{◌≡◌, ℕ, length, MatchResult};
+ghost use Rattle.std.specs.Prelude.{◌≡◌, ◌≤◌, ℕ, length, MatchResult};
 ghost use Rattle.std.specs.List.{prefix_len};
-ghost use Rattle.luf_str.specs.Bytes.{is_plain};
+ghost use Rattle.luf_str.specs.Bytes as bytes;
 ghost use Rattle.luf_lex.specs.First.{Group, group_of, IsFirst, IsFault};
 
 use crate::bracket::long_length;
@@ -19,12 +19,20 @@ pub(crate) fn long_string(text: &[u8]) -> Result<usize, LexWhat>
     }
 }
 
+/// Whether a byte stands for itself in a string in these quotes.
+fn is_plain(quote: u8, b: u8) -> bool
+    ensures { result ≡ bytes.is_plain quote b }
+{
+    b != quote && b != b'\\' && b != b'\n' && b != b'\r'
+}
+
 /// How many bytes a text begins with that stand for themselves in a string in these quotes.
 fn plain_bytes(text: &[u8], quote: u8) -> usize
-    ensures { result ≡ prefix_len (is_plain quote) text.now }
+    ensures count { result ≡ prefix_len (bytes.is_plain quote) text.now }
+    ensures bound { result ≤ length text.now }
 {
     for (i, b) in text.iter().enumerate() {
-        if *b == quote || *b == b'\\' || *b == b'\n' || *b == b'\r' {
+        if !is_plain(quote, *b) {
             return i;
         }
     }

@@ -16,7 +16,7 @@ returns-in-Some-memchr2 c =
     let k : ℕ = c.in-Some-memchr2.length in
     let found = c.in-Some-memchr2.ensures in
     short_comment text rest _ k (behind text rest c.requires refl) (omega arith) (sym c.opens_long.ensures ∙ c.if-opens_long.false) (omega (arith, found.0.high))
-      (all_in_line rest k (omega (arith, found.0.high)) (λ i below. found.0.before i (omega arith) below)) (λ m more within. not_all_in_line rest k m more within found.1)
+    (all_in_line rest k (omega (arith, found.0.high)) (λ i below. found.0.before i (omega arith) below)) (λ m more within. not_all_in_line rest k m more within found.1)
 
 pub returns-in-None-memchr2 : goal.returns-in-None-memchr2
 returns-in-None-memchr2 c =
@@ -24,4 +24,4 @@ returns-in-None-memchr2 c =
     let rest : List ℕ = take (length text - 2) (drop 2 text) in
     let e = behind text rest c.requires refl in
     short_comment text rest _ (length rest) e (sym (ap length e)) (sym c.opens_long.ensures ∙ c.if-opens_long.false) (omega arith)
-      (all_in_line rest (length rest) (omega arith) (λ i below. c.in-None-memchr2.ensures i (omega arith) below)) (λ m more within each. omega arith)
+    (all_in_line rest (length rest) (omega arith) (λ i below. c.in-None-memchr2.ensures i (omega arith) below)) (λ m more within each. omega arith)

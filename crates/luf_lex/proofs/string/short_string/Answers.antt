@@ -1,0 +1,55 @@
+use Rattle.std.proofs.Common.{◌≡◌, ◌≢◌, ◌+◌, ◌<◌, ℕ, List, length, get_or, drop, refl, sym, ap, subst, ◌∙◌, arith, inl, inr, length-drop}
+use Rattle.std.proofs.lemmas.List.{take_rest, get_or-drop}
+use Rattle.luf_str.specs.declared.fronts.Front.TheVariants as front
+use Rattle.luf_str.specs.Front.{IsFront, IsEnd}
+use Rattle.luf_str.specs.Reading.{bytes_of}
+use Rattle.luf_lex.specs.First.{IsFault}
+use Rattle.luf_lex.specs.declared.fault.LexWhat.TheVariants.{OpenString}
+use Rattle.luf_lex.proofs.StringLemmas.{IsReadTo, plain_run, goes_on, first_short, escape_fault, open_fault, open_end}
+use Rattle.luf_lex.proofs.string.short_string.Goals as goal
+
+ends_open : (text : List ℕ) (q at : ℕ) → IsReadTo q text at → IsEnd q (drop at text) → (at < length text → get_or text at 0 ≢ q) → IsFault text OpenString
+ends_open text q at r end other = open_fault text q at r (open_end q (drop at text) end (λ some e. other (omega (arith, length-drop at text)) (ap (λ i. get_or text i 0) (omega arith) ∙ sym (get_or-drop at text 0 0) ∙ e)))
+
+pub parts-preserved : goal.parts-preserved
+parts-preserved c =
+    let text : List ℕ = c.args.text.now in
+    let here = plain_run (get_or text 0 0) text _ c.parts.at c.plain_bytes-at.result c.parts.invariant.0 c.parts.invariant.1 refl c.plain_bytes-at.ensures.count in
+    let at : ℕ = c.parts.at + c.plain_bytes-at.result in
+    let part = subst (λ t. IsFront (get_or text 0 0) t (front.Part c.in-Part.length c.in-Part.meaning)) (take_rest text at) c.in-Part.ensures in
+    (omega (arith, here.0, part.1, length-drop at text), goes_on _ text at c.in-Part.length _ here.1 part.2)
+
+pub returns-in-BadEscape : goal.returns-in-BadEscape
+returns-in-BadEscape c =
+    let text : List ℕ = c.args.text.now in
+    let here = plain_run (get_or text 0 0) text _ c.parts.at c.plain_bytes-at.result c.parts.invariant.0 c.parts.invariant.1 refl c.plain_bytes-at.ensures.count in
+    let at : ℕ = c.parts.at + c.plain_bytes-at.result in
+    let bad = c.in-BadEscape.ensures in
+    escape_fault text _ at bad.0 here.1 (sym (take_rest text at) ∙ bad.1) bad.2 bad.3
+
+pub returns-in-LoneBackslash : goal.returns-in-LoneBackslash
+returns-in-LoneBackslash c =
+    let text : List ℕ = c.args.text.now in
+    let here = plain_run (get_or text 0 0) text _ c.parts.at c.plain_bytes-at.result c.parts.invariant.0 c.parts.invariant.1 refl c.plain_bytes-at.ensures.count in
+    let at : ℕ = c.parts.at + c.plain_bytes-at.result in
+    open_fault text _ at here.1 (inr (inl (sym (take_rest text at) ∙ c.in-LoneBackslash.ensures)))
+
+pub returns-in-End : goal.returns-in-End
+returns-in-End c =
+    let text : List ℕ = c.args.text.now in
+    let here = plain_run (get_or text 0 0) text _ c.parts.at c.plain_bytes-at.result c.parts.invariant.0 c.parts.invariant.1 refl c.plain_bytes-at.ensures.count in
+    first_short text _ (c.parts.at + c.plain_bytes-at.result) c.requires c.if-at-text.true here.1 c.if-text-at.true
+
+pub returns-in-End-2 : goal.returns-in-End-2
+returns-in-End-2 c =
+    let text : List ℕ = c.args.text.now in
+    let here = plain_run (get_or text 0 0) text _ c.parts.at c.plain_bytes-at.result c.parts.invariant.0 c.parts.invariant.1 refl c.plain_bytes-at.ensures.count in
+    let at : ℕ = c.parts.at + c.plain_bytes-at.result in
+    ends_open text _ at here.1 (subst (IsEnd (get_or text 0 0)) (take_rest text at) c.in-End-2.ensures) (λ _. c.if-text-at.false)
+
+pub returns-in-End-2-2 : goal.returns-in-End-2-2
+returns-in-End-2-2 c =
+    let text : List ℕ = c.args.text.now in
+    let here = plain_run (get_or text 0 0) text _ c.parts.at c.plain_bytes-at.result c.parts.invariant.0 c.parts.invariant.1 refl c.plain_bytes-at.ensures.count in
+    let at : ℕ = c.parts.at + c.plain_bytes-at.result in
+    ends_open text _ at here.1 (subst (IsEnd (get_or text 0 0)) (take_rest text at) c.in-End-2.ensures) (λ below. absurd (omega arith))
