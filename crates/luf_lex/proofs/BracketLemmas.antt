@@ -1,11 +1,11 @@
 -- Long brackets, and where a long string ends.
-use Rattle.std.proofs.Common.{◌≡◌, ◌≢◌, ℕ, zero, suc, ◌+◌, ◌-◌, ◌<◌, ◌≤◌, ◌⊎◌, ◌↔◌, Bool, true, false, cond, eqb, ◌&&◌, List, [], ◌∷◌, ◌++◌, length, get_or, take, drop, replicate, refl, sym, ap, subst, ◌∙◌, arith, inl, inr, append_assoc, length-append, length-drop}
+use Rattle.std.proofs.Common.{◌≡◌, ◌≢◌, ℕ, zero, suc, ◌+◌, ◌-◌, ◌<◌, ◌≤◌, ◌⊎◌, ◌↔◌, Bool, true, false, List, [], ◌∷◌, ◌++◌, length, get_or, take, drop, replicate, refl, sym, ap, subst, ◌∙◌, arith, inl, inr, append_assoc, length-append}
 use Rattle.std.specs.Prelude.{◌==◌}
 use Rattle.std.specs.List.{prefix_len}
-use Rattle.std.proofs.lemmas.Bool.{and_parts, and_from, eqb-true, eq-eqb, ne_eqb, cases_lt, false≢true}
+use Rattle.std.proofs.lemmas.Bool.{and_parts, eqb-true, eq-eqb, cases_lt, false≢true}
 use Rattle.std.proofs.lemmas.List.{take-append-drop, take_at, drop_at, drop_all, take_rest, get_or-drop, get_or_past, nil_from_length, length-replicate, length-take-le}
 use Rattle.memchr.specs.Find.{Nowhere, Passes, is_byte}
-use Rattle.luf_str.specs.Spelling.{opening, closing, IsLongOf, IsLongSpelling}
+use Rattle.luf_str.specs.Spelling.{opening, closing, IsLongSpelling}
 use Rattle.luf_str.proofs.LongLaws.{level_front, opening_length, closing_length}
 use Rattle.luf_str.proofs.Spelled.{bracket_front, closes_iff}
 use Rattle.luf_lex.specs.Byte.{begins}

@@ -1,11 +1,10 @@
 -- Comments at the front of a text.
-use Rattle.std.proofs.Common.{◌≡◌, ℕ, zero, suc, ◌+◌, ◌-◌, ◌<◌, ◌≤◌, ◌⊎◌, Bool, true, false, eqb, List, [], ◌∷◌, ◌++◌, length, get_or, take, drop, refl, sym, ap, subst, ◌∙◌, arith, inl, inr}
+use Rattle.std.proofs.Common.{◌≡◌, ℕ, zero, suc, ◌-◌, ◌<◌, ◌≤◌, ◌⊎◌, true, false, List, [], ◌∷◌, length, get_or, take, drop, refl, sym, ap, subst, ◌∙◌, arith, inl, inr}
 use Rattle.std.specs.List.{list_all}
 use Rattle.std.proofs.lemmas.Bool.{false≢true, false_from_ne_true, and_parts}
 use Rattle.std.proofs.lemmas.Bool.Decides.{nat_tests}
-use Rattle.std.proofs.lemmas.List.{take-append-drop, take_rest, take-take, length-take-le}
-use Rattle.memchr.specs.Find.{Nowhere, Passes, is_byte2}
-use Rattle.luf_str.specs.Bytes.{is_line_byte}
+use Rattle.std.proofs.lemmas.List.{take-append-drop, take_rest}
+use Rattle.memchr.specs.Find.{is_byte2}
 use Rattle.luf_str.specs.Spelling.{IsLongSpelling}
 use Rattle.luf_lex.specs.Byte.{in_line}
 use Rattle.luf_lex.specs.Spelling.{opens_long, IsShortComment, IsLongComment}

@@ -1,11 +1,11 @@
 -- Strings at the front of a text.
-use Rattle.std.proofs.Common.{◌≡◌, ◌≢◌, ℕ, zero, suc, ◌+◌, ◌-◌, ◌<◌, ◌≤◌, ◌⊎◌, Bool, true, false, List, [], ◌∷◌, ◌++◌, length, get_or, take, drop, refl, sym, ap, subst, ◌∙◌, arith, inl, inr, append_assoc, length-append, length-drop}
+use Rattle.std.proofs.Common.{◌≡◌, ◌≢◌, ℕ, zero, suc, ◌+◌, ◌-◌, ◌<◌, ◌≤◌, true, false, List, [], ◌∷◌, ◌++◌, length, get_or, take, drop, refl, sym, ap, subst, ◌∙◌, arith, inl, inr, append_assoc, length-append, length-drop}
 use Rattle.std.specs.List.{prefix_len}
 use Rattle.std.proofs.lemmas.Bool.Decides.{nat_tests}
 use Rattle.std.proofs.lemmas.Grind.{flat_map-append}
-use Rattle.std.proofs.lemmas.List.{append-nil, take-append-drop, take_at, take_rest, drop_more, drop-drop, get_or-drop, length-take-le}
+use Rattle.std.proofs.lemmas.List.{append-nil, take-append-drop, take_at, take_rest, drop_more, drop-drop, get_or-drop}
 use Rattle.std.proofs.lemmas.List.Sums.{prefix_len_passes, prefix_len-le-length}
-use Rattle.luf_str.specs.Bytes.{is_line_byte, is_digit, is_quote, is_plain, is_space}
+use Rattle.luf_str.specs.Bytes.{is_digit, is_quote, is_plain, is_space}
 use Rattle.luf_str.specs.Escape.{IsEscape, NoEscape}
 use Rattle.luf_str.specs.Escape as escape_rule
 use Rattle.luf_str.specs.Spelling.{IsLongSpelling, IsSpelling}
@@ -15,11 +15,10 @@ use Rattle.luf_str.specs.Front.{IsEnd}
 use Rattle.luf_str.proofs.InPlace.{in_place_push}
 use Rattle.luf_str.proofs.Requoting.{is_quote_like, HasSameFront, IsApart, none_again, spaces_apart, line_end_again}
 use Rattle.luf_str.proofs.Apart.{valued_is_spelled}
-use Rattle.luf_lex.specs.Byte.{begins}
 use Rattle.luf_lex.specs.Spelling.{IsShortString}
 use Rattle.luf_lex.specs.First.{Quoted, Bracketed, group_of, IsFirst, IsFault, IsOpenLong, IsOpenEnd}
 use Rattle.luf_lex.specs.First as fault
-use Rattle.luf_lex.specs.declared.fault.LexWhat.TheVariants.{OpenLong, OpenString, BadEscape}
+use Rattle.luf_lex.specs.declared.fault.LexWhat.TheVariants.{OpenString, BadEscape}
 use Rattle.luf_lex.specs.declared.token.Tok.TheVariants.{Short, Long}
 use Rattle.luf_lex.specs.declared.token.Kind.TheVariants.{Token}
 use Rattle.luf_lex.proofs.LoneKind.{quoted_cut, quoted_kind, bracketed_kind, first_alone, fronts_apart}
@@ -142,7 +141,12 @@ escape_fault text q at next r e some none =
 pub open_fault : (text : List ℕ) (q at : ℕ) → IsReadTo q text at → IsOpenEnd (drop at text) → IsFault text OpenString
 open_fault text q at r end = subst (λ t. IsFault t OpenString) (sym r.cut) (fault.open_string q r.parts (drop at text) r.quote r.are end)
 
-pub open_end : (q : ℕ) (rest : List ℕ) → IsEnd q rest → (0 < length rest → get_or rest 0 0 ≢ q) → IsOpenEnd rest
-open_end q [] end other = inl refl
-open_end q (b ∷ rest) (inl e) other = absurd (other (omega arith) e)
-open_end q (b ∷ rest) (inr line) other = inr (inr line)
+is_open_end : (q : ℕ) (rest : List ℕ) → IsEnd q rest → (0 < length rest → get_or rest 0 0 ≢ q) → IsOpenEnd rest
+is_open_end q [] end other = inl refl
+is_open_end q (b ∷ rest) (inl e) other = absurd (other (omega arith) e)
+is_open_end q (b ∷ rest) (inr line) other = inr (inr line)
+
+pub open_end : (text : List ℕ) (q at : ℕ) → IsReadTo q text at → IsEnd q (drop at text) → (at < length text → get_or text at 0 ≢ q) → IsFault text OpenString
+open_end text q at r end other =
+    let same : get_or (drop at text) 0 0 ≡ get_or text at 0 = get_or-drop at text 0 0 ∙ ap (λ i. get_or text i 0) (omega arith) in
+    open_fault text q at r (is_open_end q (drop at text) end (λ some e. other (omega (arith, length-drop at text)) (sym same ∙ e)))

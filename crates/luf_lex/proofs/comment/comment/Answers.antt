@@ -1,5 +1,4 @@
-use Rattle.std.proofs.Common.{◌≡◌, ◌+◌, ◌-◌, ℕ, List, ◌∷◌, length, take, drop, refl, sym, ap, ◌∙◌, arith, length-drop}
-use Rattle.std.proofs.lemmas.List.{take_rest}
+use Rattle.std.proofs.Common.{◌-◌, ℕ, List, length, take, drop, refl, sym, ap, ◌∙◌, arith}
 use Rattle.luf_lex.proofs.CommentLemmas.{behind, all_in_line, not_all_in_line, short_comment, long_comment, open_comment}
 use Rattle.luf_lex.proofs.comment.comment.Goals as goal
 

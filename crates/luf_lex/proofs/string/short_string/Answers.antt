@@ -1,15 +1,10 @@
-use Rattle.std.proofs.Common.{◌≡◌, ◌≢◌, ◌+◌, ◌<◌, ℕ, List, length, get_or, drop, refl, sym, ap, subst, ◌∙◌, arith, inl, inr, length-drop}
-use Rattle.std.proofs.lemmas.List.{take_rest, get_or-drop}
+use Rattle.std.proofs.Common.{◌+◌, ℕ, List, get_or, refl, sym, subst, ◌∙◌, arith, inl, inr, length-drop}
+use Rattle.std.proofs.lemmas.List.{take_rest}
 use Rattle.luf_str.specs.declared.fronts.Front.TheVariants as front
 use Rattle.luf_str.specs.Front.{IsFront, IsEnd}
-use Rattle.luf_str.specs.Reading.{bytes_of}
-use Rattle.luf_lex.specs.First.{IsFault}
-use Rattle.luf_lex.specs.declared.fault.LexWhat.TheVariants.{OpenString}
-use Rattle.luf_lex.proofs.StringLemmas.{IsReadTo, plain_run, goes_on, first_short, escape_fault, open_fault, open_end}
+use Rattle.luf_lex.proofs.StringLemmas.{plain_run, goes_on, first_short, escape_fault, open_fault, open_end}
+use Rattle.std.proofs.lemmas.Bool.{false≢true}
 use Rattle.luf_lex.proofs.string.short_string.Goals as goal
-
-ends_open : (text : List ℕ) (q at : ℕ) → IsReadTo q text at → IsEnd q (drop at text) → (at < length text → get_or text at 0 ≢ q) → IsFault text OpenString
-ends_open text q at r end other = open_fault text q at r (open_end q (drop at text) end (λ some e. other (omega (arith, length-drop at text)) (ap (λ i. get_or text i 0) (omega arith) ∙ sym (get_or-drop at text 0 0) ∙ e)))
 
 pub parts-preserved : goal.parts-preserved
 parts-preserved c =
@@ -38,18 +33,12 @@ pub returns-in-End : goal.returns-in-End
 returns-in-End c =
     let text : List ℕ = c.args.text.now in
     let here = plain_run (get_or text 0 0) text _ c.parts.at c.plain_bytes-at.result c.parts.invariant.0 c.parts.invariant.1 refl c.plain_bytes-at.ensures.count in
-    first_short text _ (c.parts.at + c.plain_bytes-at.result) c.requires c.if-at-text.true here.1 c.if-text-at.true
+    let quote = c.is_at.ensures.0 c.if-is_at.true in
+    first_short text _ (c.parts.at + c.plain_bytes-at.result) c.requires quote.0 here.1 quote.1
 
 pub returns-in-End-2 : goal.returns-in-End-2
 returns-in-End-2 c =
     let text : List ℕ = c.args.text.now in
     let here = plain_run (get_or text 0 0) text _ c.parts.at c.plain_bytes-at.result c.parts.invariant.0 c.parts.invariant.1 refl c.plain_bytes-at.ensures.count in
     let at : ℕ = c.parts.at + c.plain_bytes-at.result in
-    ends_open text _ at here.1 (subst (IsEnd (get_or text 0 0)) (take_rest text at) c.in-End-2.ensures) (λ _. c.if-text-at.false)
-
-pub returns-in-End-2-2 : goal.returns-in-End-2-2
-returns-in-End-2-2 c =
-    let text : List ℕ = c.args.text.now in
-    let here = plain_run (get_or text 0 0) text _ c.parts.at c.plain_bytes-at.result c.parts.invariant.0 c.parts.invariant.1 refl c.plain_bytes-at.ensures.count in
-    let at : ℕ = c.parts.at + c.plain_bytes-at.result in
-    ends_open text _ at here.1 (subst (IsEnd (get_or text 0 0)) (take_rest text at) c.in-End-2.ensures) (λ below. absurd (omega arith))
+    open_end text _ at here.1 (subst (IsEnd (get_or text 0 0)) (take_rest text at) c.in-End-2.ensures) (λ below e. false≢true (sym c.if-is_at.false ∙ c.is_at.ensures.1 (below, e)))
