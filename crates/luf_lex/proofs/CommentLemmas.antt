@@ -71,8 +71,8 @@ long_longest rest k long (suc zero) more within is = omega arith
 long_longest rest k long (suc (suc m)) more within (inl c) = false≢true (sym (short_behind (take m rest) c).0 ∙ opens_longer rest k m (omega arith) (long_opens (take k rest) long))
 long_longest rest k long (suc (suc m)) more within (inr c) = fronts_apart rest k m (omega arith) (omega arith) (inr long) (inr (long_behind (take m rest) c))
 
-first_comment : (rest : List ℕ) (k : ℕ) → k ≤ length rest → IsShortComment (45 ∷ 45 ∷ take k rest) ⊎ IsLongComment (45 ∷ 45 ∷ take k rest) → IsLongest (45 ∷ 45 ∷ rest) (suc (suc k)) → IsFirst (45 ∷ 45 ∷ rest) Comment (suc (suc k))
-first_comment rest k within spelled longest = first_alone (45 ∷ 45 ∷ rest) Commented Comment (suc (suc k)) refl refl commented_kind (λ f. absurd cc) (omega arith) (omega arith) spelled longest
+first_comment : (rest : List ℕ) (k : ℕ) → k ≤ length rest → IsShortComment (45 ∷ 45 ∷ take k rest) ⊎ IsLongComment (45 ∷ 45 ∷ take k rest) → (opens_long rest ≡ true → IsLongComment (45 ∷ 45 ∷ take k rest)) → IsLongest (45 ∷ 45 ∷ rest) (suc (suc k)) → IsFirst (45 ∷ 45 ∷ rest) Comment (suc (suc k))
+first_comment rest k within spelled long longest = first_alone (45 ∷ 45 ∷ rest) Commented Comment (suc (suc k)) refl refl commented_kind (λ f. absurd cc) (λ f. long) (omega arith) (omega arith) spelled longest
 
 -- ---- at a text that begins with `--`, by what stands behind it
 
@@ -84,12 +84,12 @@ pub short_comment : (text rest : List ℕ) (n k : ℕ) → 45 ∷ 45 ∷ rest �
     → ((m : ℕ) → k < m → m ≤ length rest → list_all in_line (take m rest) ≡ true → ⊥) → IsFirst text Comment n
 short_comment text rest n k e is plain within each ends =
     let still : opens_long (take k rest) ≡ false = false_from_ne_true _ (λ h. false≢true (sym plain ∙ opens_whole rest k h)) in
-    let first = first_comment rest k within (inl (record { rest = take k rest; spelled = refl; plain = still; each = each })) (short_longest rest k plain ends) in
+    let first = first_comment rest k within (inl (record { rest = take k rest; spelled = refl; plain = still; each = each })) (λ opens. absurd (false≢true (sym plain ∙ opens))) (short_longest rest k plain ends) in
     subst (λ t. IsFirst t Comment n) e (subst (λ i. IsFirst (45 ∷ 45 ∷ rest) Comment i) (sym is) first)
 
 pub long_comment : (text rest : List ℕ) (n k : ℕ) → 45 ∷ 45 ∷ rest ≡ text → n ≡ suc (suc k) → k ≤ length rest → IsLongSpelling (take k rest) → IsFirst text Comment n
 long_comment text rest n k e is within long =
-    let first = first_comment rest k within (inr (record { rest = take k rest; spelled = refl; long = long })) (long_longest rest k long) in
+    let first = first_comment rest k within (inr (record { rest = take k rest; spelled = refl; long = long })) (λ opens. record { rest = take k rest; spelled = refl; long = long }) (long_longest rest k long) in
     subst (λ t. IsFirst t Comment n) e (subst (λ i. IsFirst (45 ∷ 45 ∷ rest) Comment i) (sym is) first)
 
 pub open_comment : (text rest : List ℕ) → 45 ∷ 45 ∷ rest ≡ text → IsOpenLong rest → IsFault text OpenLong

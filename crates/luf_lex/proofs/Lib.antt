@@ -2,3 +2,4 @@ pub mod BracketLemmas
 pub mod LoneKind
 pub mod StringLemmas
 pub mod CommentLemmas
+pub mod FaultLaws

@@ -6,7 +6,7 @@ use Rattle.luf_str.specs.Bytes.{is_quote}
 use Rattle.luf_str.specs.Spelling.{IsSpelling}
 use Rattle.luf_str.proofs.Apart.{apart}
 use Rattle.luf_lex.specs.Byte.{begins}
-use Rattle.luf_lex.specs.Spelling.{Spells, opens_long}
+use Rattle.luf_lex.specs.Spelling.{Spells, IsLongComment, opens_long}
 use Rattle.luf_lex.specs.First.{Group, Quoted, Bracketed, Commented, Numeric, Other, group_of, is_tried, begins_comment, begins_numeral, IsFirst}
 use Rattle.luf_lex.specs.declared.token.Tok.TheVariants.{Short, Long}
 use Rattle.luf_lex.specs.declared.token.Kind.{Kind}
@@ -75,14 +75,15 @@ commented_kind _ h = absurd (false≢true h)
 
 -- such a kind is the first piece, where no longer front is of it
 pub first_alone : (text : List ℕ) (group : Group) (kind : Kind) (n : ℕ) → group_of text ≡ group → is_tried group kind ≡ true → ((other : Kind) → is_tried group other ≡ true → other ≡ kind) → (group ≡ Numeric → ⊥)
-    → 0 < n → n ≤ length text → Spells kind (take n text) → ((m : ℕ) → n < m → m ≤ length text → Spells kind (take m text) → ⊥) → IsFirst text kind n
-first_alone text group kind n e tried alone plain some within spelled longest = record {
+    → (group ≡ Commented → opens_long (drop 2 text) ≡ true → IsLongComment (take n text)) → 0 < n → n ≤ length text → Spells kind (take n text) → ((m : ℕ) → n < m → m ≤ length text → Spells kind (take m text) → ⊥) → IsFirst text kind n
+first_alone text group kind n e tried alone plain long some within spelled longest = record {
   some = some;
   within = within;
   tried = subst (λ g. is_tried g kind ≡ true) (sym e) tried;
   spelled = spelled;
   longest = λ other m t more fits s. longest m more fits (subst (λ k. Spells k (take m text)) (alone other (subst (λ g. is_tried g other ≡ true) e t)) s);
   numeral = λ numeric. absurd (plain (sym e ∙ numeric));
+  long = λ comment. long (sym e ∙ comment);
 }
 
 -- and where no front is of it, the text has no first piece

@@ -31,7 +31,7 @@ long_some text (suc n) long = omega arith
 
 pub first_long : (text : List ℕ) (n : ℕ) → group_of text ≡ Bracketed → n ≤ length text → IsLongSpelling (take n text) → IsFirst text (Token Long) n
 first_long text n e within long =
-    first_alone text Bracketed (Token Long) n e refl bracketed_kind (λ f. absurd cc) (long_some text n long) within long (λ m more fits other. fronts_apart text n m more fits (inr long) (inr other))
+    first_alone text Bracketed (Token Long) n e refl bracketed_kind (λ f. absurd cc) (λ f. absurd cc) (long_some text n long) within long (λ m more fits other. fronts_apart text n m more fits (inr long) (inr other))
 
 -- ---- a part stays one where the same byte follows
 
@@ -57,7 +57,7 @@ same_front : (front m n : List ℕ) → get_or m 0 0 ≡ get_or n 0 0 → get_or
 same_front [] m n e = e
 same_front (b ∷ front) m n e = refl
 
-parts_again : (q : ℕ) (parts : List Part) (m n : List ℕ) → get_or m 0 0 ≡ get_or n 0 0 → AreParts q parts m → AreParts q parts n
+pub parts_again : (q : ℕ) (parts : List Part) (m n : List ℕ) → get_or m 0 0 ≡ get_or n 0 0 → AreParts q parts m → AreParts q parts n
 parts_again q [] m n e all = tt
 parts_again q (p ∷ parts) m n e all = (part_again (spelling_of parts ++ n) (inl (same_front (spelling_of parts) m n e)) all.0, parts_again q parts m n e all.1)
 
@@ -129,7 +129,7 @@ short_is_spelled text s = valued_is_spelled text s.0 (inl s.1)
 pub first_short : (text : List ℕ) (q at : ℕ) → group_of text ≡ Quoted → at < length text → IsReadTo q text at → get_or text at 0 ≡ q → IsFirst text (Token Short) (at + 1)
 first_short text q at e below r closes =
     let short = short_spelled q text (drop (at + 1) text) at below r (drop_more text at 0 below ∙ ap (λ b. b ∷ drop (at + 1) text) closes) in
-    first_alone text Quoted (Token Short) (at + 1) e refl quoted_kind (λ f. absurd cc) (omega arith) (omega arith) short
+    first_alone text Quoted (Token Short) (at + 1) e refl quoted_kind (λ f. absurd cc) (λ f. absurd cc) (omega arith) (omega arith) short
     (λ m more fits other. fronts_apart text (at + 1) m more fits (short_is_spelled _ short) (short_is_spelled _ other))
 
 -- a backslash that begins no escape
