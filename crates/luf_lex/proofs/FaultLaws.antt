@@ -1,5 +1,5 @@
 -- A text has at most one length of its first piece, and none where it has a fault.
-use Rattle.std.proofs.Common.{◌≡◌, ◌≢◌, ℕ, zero, suc, ◌+◌, ◌<◌, ◌≤◌, ◌⊎◌, Bool, true, false, List, [], ◌∷◌, ◌++◌, length, get_or, take, drop, refl, sym, ap, subst, ◌∙◌, arith, inl, inr, append_assoc}
+use Rattle.std.proofs.Common.{◌≡◌, ◌≢◌, ℕ, zero, suc, ◌<◌, ◌⊎◌, true, false, List, [], ◌∷◌, ◌++◌, length, take, drop, refl, sym, ap, subst, ◌∙◌, arith, inl, inr, append_assoc}
 use Rattle.std.proofs.lemmas.Bool.{cases_order, false≢true, and_parts, eqb-true}
 use Rattle.std.proofs.lemmas.Bool.Decides.{nat_tests}
 use Rattle.std.proofs.lemmas.List.{take-append-drop}
@@ -19,6 +19,7 @@ use Rattle.luf_lex.specs.Spelling.{opens_long, IsLongComment, IsShortString}
 use Rattle.luf_lex.specs.First.{Group, Quoted, Bracketed, Commented, Numeric, Other, group_of, is_tried, numeral_length, IsFirst, HasNone, IsOpenLong, IsOpenEnd, IsFault}
 use Rattle.luf_lex.specs.First as fault
 use Rattle.luf_lex.specs.declared.fault.LexWhat.{LexWhat}
+use Rattle.luf_lex.specs.declared.fault.LexWhat.TheVariants.{NoToken, BadNumeral, BadEscape, OpenString, OpenLong}
 use Rattle.luf_lex.specs.declared.token.Tok.TheVariants.{Number, Short, Long}
 use Rattle.luf_lex.specs.declared.token.Kind.{Kind}
 use Rattle.luf_lex.specs.declared.token.Kind.TheVariants.{Token}
@@ -187,3 +188,79 @@ fault_has_none (fault.bad_escape q parts next quote are some none) =
 fault_has_none (fault.open_string q parts rest quote are end) = quoted_none q parts rest quote are (stops_open q rest quote end) (λ behind closes. open_is_unclosed q rest behind quote end closes)
 fault_has_none (fault.open_long text unclosed) = bracketed_none text unclosed
 fault_has_none (fault.open_comment rest unclosed) = commented_none rest unclosed
+
+-- ---- a text has at most one fault
+
+-- what stands where a reading of a short string stops
+abbrev Says : LexWhat → List ℕ → Type 0
+Says BadEscape rest = (next : List ℕ) × (rest ≡ 92 ∷ next) × (next ≢ []) × NoEscape next
+Says OpenString rest = IsOpenEnd rest
+Says _ rest = ⊥
+
+abbrev StopsAt : LexWhat → List ℕ → Type 0
+StopsAt what text = (q : ℕ) × (parts : List Part) × (rest : List ℕ) × (is_quote q ≡ true) × AreParts q parts rest × (text ≡ q ∷ (spelling_of parts ++ rest)) × Says what rest
+
+-- the faults of each group
+abbrev MayFault : Group → LexWhat → List ℕ → Type 0
+MayFault Quoted what text = StopsAt what text
+MayFault Bracketed OpenLong text = Unit {0}
+MayFault Commented OpenLong text = Unit {0}
+MayFault Numeric BadNumeral text = Unit {0}
+MayFault Other NoToken text = Unit {0}
+MayFault _ _ text = ⊥
+
+may_fault : {text : List ℕ} {what : LexWhat} → IsFault text what → MayFault (group_of text) what text
+may_fault (fault.no_token text e none) = subst (λ g. MayFault g NoToken text) (sym e) tt
+may_fault (fault.bad_numeral text e none) = subst (λ g. MayFault g BadNumeral text) (sym e) tt
+may_fault (fault.bad_escape q parts next quote are some none) =
+    let text : List ℕ = q ∷ (spelling_of parts ++ 92 ∷ next) in
+    subst (λ g. MayFault g BadEscape text) (sym (quoted_group q (spelling_of parts ++ 92 ∷ next) quote)) (q, parts, 92 ∷ next, quote, are, refl, (next, refl, some, none))
+may_fault (fault.open_string q parts rest quote are end) =
+    let text : List ℕ = q ∷ (spelling_of parts ++ rest) in
+    subst (λ g. MayFault g OpenString text) (sym (quoted_group q (spelling_of parts ++ rest) quote)) (q, parts, rest, quote, are, refl, end)
+may_fault (fault.open_long text unclosed) = subst (λ g. MayFault g OpenLong text) (sym (bracketed_group text unclosed.0)) tt
+may_fault (fault.open_comment rest unclosed) = tt
+
+bad_is_not_open : (rest next : List ℕ) → rest ≡ 92 ∷ next → next ≢ [] → IsOpenEnd rest → ⊥
+bad_is_not_open rest next e some (inl none) = let no : [] ≡ 92 ∷ next = sym none ∙ e in cc
+bad_is_not_open rest next e some (inr (inl lone)) = some (first_same 92 92 next [] (sym e ∙ lone)).1
+bad_is_not_open rest next e some (inr (inr line)) = false≢true (sym (ap (begins is_line_byte) e) ∙ line)
+
+same_says : (rest : List ℕ) (w v : LexWhat) → Says w rest → Says v rest → w ≡ v
+same_says rest BadEscape BadEscape a b = refl
+same_says rest OpenString OpenString a b = refl
+same_says rest BadEscape OpenString a b = absurd (bad_is_not_open rest a.0 a.1 a.2 b)
+same_says rest OpenString BadEscape a b = absurd (bad_is_not_open rest b.0 b.1 b.2 a)
+same_says rest BadEscape _ a b = absurd b
+same_says rest OpenString _ a b = absurd b
+same_says rest _ v a b = absurd a
+
+stops_where : (q : ℕ) (rest : List ℕ) (what : LexWhat) → is_quote q ≡ true → Says what rest → Stops q rest
+stops_where q rest BadEscape quote a = subst (Stops q) (sym a.1) (stops_bad q a.0 a.3)
+stops_where q rest OpenString quote a = stops_open q rest quote a
+stops_where q rest _ quote a = absurd a
+
+same_stop : (text : List ℕ) (w v : LexWhat) → StopsAt w text → StopsAt v text → w ≡ v
+same_stop text w v (q, parts, rest, quote, are, e, says) (p, others, rest', quote', all, f, says') =
+    let same : p ≡ q = (first_same p q _ _ (sym f ∙ e)).0 in
+    let moved = subst (λ x. AreParts x others rest' × (text ≡ x ∷ (spelling_of others ++ rest'))) same (all, f) in
+    let r = same_pieces (IsPartOf q) spelled (parts_determined q) parts others rest rest' are moved.0 (stops_where q rest w quote says) (stops_where q rest' v quote says') (first_same q q _ _ (sym e ∙ moved.1)).1 in
+    same_says rest w v says (subst (Says v) (sym r.1) says')
+
+same_fault : (group : Group) (w v : LexWhat) (text : List ℕ) → MayFault group w text → MayFault group v text → w ≡ v
+same_fault Quoted w v text a b = same_stop text w v a b
+same_fault Bracketed OpenLong OpenLong text a b = refl
+same_fault Bracketed OpenLong _ text a b = absurd b
+same_fault Bracketed _ v text a b = absurd a
+same_fault Commented OpenLong OpenLong text a b = refl
+same_fault Commented OpenLong _ text a b = absurd b
+same_fault Commented _ v text a b = absurd a
+same_fault Numeric BadNumeral BadNumeral text a b = refl
+same_fault Numeric BadNumeral _ text a b = absurd b
+same_fault Numeric _ v text a b = absurd a
+same_fault Other NoToken NoToken text a b = refl
+same_fault Other NoToken _ text a b = absurd b
+same_fault Other _ v text a b = absurd a
+
+pub one_fault : (text : List ℕ) (w v : LexWhat) → IsFault text w → IsFault text v → w ≡ v
+one_fault text w v a b = same_fault (group_of text) w v text (may_fault a) (may_fault b)
