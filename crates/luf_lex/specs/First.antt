@@ -7,12 +7,12 @@ use Rattle.luf_str.specs.Escape.{NoEscape}
 use Rattle.luf_str.specs.Spelling.{IsLongSpelling}
 use Rattle.luf_str.specs.Value.{Part, AreParts, spelling_of}
 use Rattle.luf_lex.specs.Byte.{is_letter, begins}
-use Rattle.luf_lex.specs.Spelling.{Spells, opens_long}
+use Rattle.luf_lex.specs.Spelling.{Spells, IsLongComment, opens_long}
 use Rattle.luf_lex.specs.declared.fault.LexWhat.{LexWhat}
 use Rattle.luf_lex.specs.declared.fault.LexWhat.TheVariants.{NoToken, BadNumeral, BadEscape, OpenString, OpenLong}
 use Rattle.luf_lex.specs.declared.token.Tok.TheVariants.{Name, Number, Short, Long, Word, Sign}
 use Rattle.luf_lex.specs.declared.token.Kind.{Kind}
-use Rattle.luf_lex.specs.declared.token.Kind.TheVariants.{Token, Comment, Blank, LineEnd, HashLine, Mark}
+use Rattle.luf_lex.specs.declared.token.Kind.TheVariants.{Token, Comment, Blank, LineEnd}
 
 -- What is tried at a place. Where a short string, a long bracket, a comment or a numeral begins, nothing else is.
 pub data Group : Type 0 where
@@ -70,8 +70,9 @@ numeral_length text =
     if begins_hexadecimal text then 2 + numeral_tail is_binary_mark (drop 2 text)
     else 1 + numeral_tail is_decimal_mark (drop 1 text)
 
--- The first n bytes of a text are its first piece: they spell this kind, which is tried there. No longer front of
--- the text spells any that is; but a numeral is as long as the scan goes.
+-- The first n bytes of a text are its first piece: they spell this kind, which is tried there, and no longer front of
+-- the text spells any that is. But a numeral is as long as the scan goes, and a comment is a long one where a long
+-- bracket directly follows its dashes.
 pub record IsFirst (text : List ℕ) (kind : Kind) (n : ℕ) : Type 0 where
   pub some : 0 < n
   pub within : n ≤ length text
@@ -79,6 +80,7 @@ pub record IsFirst (text : List ℕ) (kind : Kind) (n : ℕ) : Type 0 where
   pub spelled : Spells kind (take n text)
   pub longest : group_of text ≢ Numeric → (other : Kind) (m : ℕ) → is_tried (group_of text) other ≡ true → n < m → m ≤ length text → Spells other (take m text) → ⊥
   pub numeral : group_of text ≡ Numeric → n ≡ numeral_length text
+  pub long : group_of text ≡ Commented → opens_long (drop 2 text) ≡ true → IsLongComment (take n text)
 
 -- no piece begins the text
 abbrev pub HasNone : List ℕ → Type 0

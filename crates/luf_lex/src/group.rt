@@ -1,11 +1,11 @@
 // What is tried at a place.
-ghost use Rattle.std.specs.Prelude.{◌≡◌, ◌<◌, length};
+ghost use Rattle.std.specs.Prelude.{◌≡◌};
 ghost use Rattle.luf_lex.specs.First as first;
 ghost use Rattle.luf_str.specs.Bytes.{is_quote};
 ghost use Rattle.luf_lex.specs.Byte.{begins};
-ghost use Rattle.luf_lex.specs.Spelling.{opens_long as spec_opens_long};
 ghost use Rattle.luf_lex.specs.Group.{group_named};
 
+use crate::bracket::opens_long;
 use crate::byte::is_digit;
 
 /// What is tried at a place of a source: where a short string, a long bracket, a comment or a numeral begins,
@@ -58,11 +58,4 @@ fn begins_numeral(text: &[u8]) -> bool
         [b, ..] => is_digit(*b),
         [] => false,
     }
-}
-
-/// Whether a text begins with a long bracket.
-fn opens_long(text: &[u8]) -> bool
-    ensures { result ≡ spec_opens_long text.now }
-{
-    text.len() > 1000
 }

@@ -1,17 +1,18 @@
 //! The pieces of a source: its tokens and what lies between them, each with its place.
 #![tactic(auto)]
 
+mod bracket;
 mod byte;
 mod comment;
 mod cutting;
+mod fault;
 mod first;
-mod string;
 mod group;
 mod numeral;
-mod plain;
-mod fault;
-mod sign;
 mod pieces;
+mod plain;
+mod sign;
+mod string;
 mod token;
 mod word;
 
