@@ -5,3 +5,5 @@ pub mod Spelling
 pub mod First
 pub mod Cut
 pub mod Tokens
+pub mod Note
+pub mod Leads
