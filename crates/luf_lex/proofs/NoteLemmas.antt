@@ -1,10 +1,10 @@
 -- The index of the comments of a cut, built one piece at a time.
-use Rattle.std.proofs.Common.{◌≡◌, ℕ, zero, suc, ◌+◌, ◌-◌, ◌<◌, ◌≤◌, Bool, true, false, not, ◌&&◌, ◌==◌, cond, List, [], ◌∷◌, ◌++◌, length, take, drop, get_or, refl, sym, ap, ◌∙◌, subst, arith, append_assoc, append-nil, length-append, length-drop, add-one}
+use Rattle.std.proofs.Common.{◌≡◌, ℕ, zero, suc, ◌+◌, ◌-◌, ◌<◌, ◌≤◌, Bool, true, false, not, ◌==◌, cond, List, [], ◌∷◌, ◌++◌, length, take, drop, get_or, refl, sym, ap, ◌∙◌, subst, arith, append_assoc, append-nil, length-append, length-drop, add-one}
 use Rattle.std.proofs.Math.Dec.{eqb-zero-suc, eqb-suc-zero, eqb-suc-suc}
-use Rattle.std.specs.Prelude.{slice_range, reverse}
+use Rattle.std.specs.Prelude.{slice_range}
 use Rattle.std.specs.List.{suffix_len}
 use Rattle.std.proofs.Math.Seq.{take-length, drop-length}
-use Rattle.std.proofs.lemmas.List.{drop-append-le, take-append-le, drop_more, take_more, take_all, drop_all}
+use Rattle.std.proofs.lemmas.List.{drop-append-le, take-append-le, drop_more, take_more, take_all, drop_all, get_or_default}
 use Rattle.luf_lex.specs.Leads.{stretch, IsRising, IsLeadIndex}
 use Rattle.luf_lex.specs.Note.{is_comment, is_content, note_of, lead_from, lead_of, last_gap}
 use Rattle.luf_lex.specs.Tokens.{is_token, tokens_of}
@@ -38,7 +38,7 @@ rising_next (a ∷ []) end n h within = absurd (omega arith)
 rising_next (a ∷ b ∷ bounds) end zero h within = (h.0, rising_first b bounds end h.1)
 rising_next (a ∷ b ∷ bounds) end (suc n) h within = rising_next (b ∷ bounds) end n h.1 (omega arith)
 
-pub rising_at : (bounds : List ℕ) (end n : ℕ) → IsRising end bounds → n + 1 < length bounds → (get_or bounds n 0 ≤ get_or bounds (n + 1) 0) × (get_or bounds (n + 1) 0 ≤ end)
+rising_at : (bounds : List ℕ) (end n : ℕ) → IsRising end bounds → n + 1 < length bounds → (get_or bounds n 0 ≤ get_or bounds (n + 1) 0) × (get_or bounds (n + 1) 0 ≤ end)
 rising_at bounds end n h within = rw add-one (rising_next bounds end n h within)
 
 stretch_next : (notes : List Note) (bounds : List ℕ) (n : ℕ) → n + 1 < length bounds → stretch notes bounds n ≡ slice_range notes (get_or bounds n 0) (get_or bounds (suc n) 0)
@@ -47,8 +47,22 @@ stretch_next notes (a ∷ []) n within = absurd (omega arith)
 stretch_next notes (a ∷ b ∷ bounds) zero within = refl
 stretch_next notes (a ∷ b ∷ bounds) (suc n) within = stretch_next notes (b ∷ bounds) n (omega arith)
 
-pub stretch_at : (notes : List Note) (bounds : List ℕ) (n : ℕ) → n + 1 < length bounds → stretch notes bounds n ≡ slice_range notes (get_or bounds n 0) (get_or bounds (n + 1) 0)
+stretch_at : (notes : List Note) (bounds : List ℕ) (n : ℕ) → n + 1 < length bounds → stretch notes bounds n ≡ slice_range notes (get_or bounds n 0) (get_or bounds (n + 1) 0)
 stretch_at notes bounds n within = rw add-one (stretch_next notes bounds n within)
+
+-- the same, as the code reads the two
+pub read_rising : (bounds : List ℕ) (end n from to : ℕ) → IsRising end bounds → n + 1 < length bounds → from ≡ get_or bounds n from → to ≡ get_or bounds (n + 1) to → (from ≤ to) × (to ≤ end)
+read_rising bounds end n from to h within is_from is_to =
+    let at = rising_at bounds end n h within in
+    let same_from : get_or bounds n from ≡ get_or bounds n 0 = get_or_default bounds n from 0 (omega arith) in
+    let same_to : get_or bounds (n + 1) to ≡ get_or bounds (n + 1) 0 = get_or_default bounds (n + 1) to 0 within in
+    (omega arith, omega arith)
+
+pub read_stretch : (notes : List Note) (bounds : List ℕ) (n from to : ℕ) → n + 1 < length bounds → from ≡ get_or bounds n from → to ≡ get_or bounds (n + 1) to → slice_range notes from to ≡ stretch notes bounds n
+read_stretch notes bounds n from to within is_from is_to =
+    ap (λ i. slice_range notes i to) (is_from ∙ get_or_default bounds n from 0 (omega arith))
+    ∙ ap (λ i. slice_range notes (get_or bounds n 0) i) (is_to ∙ get_or_default bounds (n + 1) to 0 within)
+    ∙ sym (stretch_at notes bounds n within)
 
 -- ---- one more note
 range_push : (notes : List Note) (x : Note) (a b : ℕ) → a ≤ b → b ≤ length notes → slice_range (notes ++ x ∷ []) a b ≡ slice_range notes a b
@@ -164,7 +178,7 @@ past_piece : (notes new_notes : List Note) (bounds new_bounds : List ℕ) (piece
 past_piece notes new_notes bounds new_bounds pieces i d within same same_bounds h =
     subst (λ ns. IsLeadIndexSoFar ns new_bounds (take (i + 1) pieces) (drop (i + 1) pieces) pieces) (sym same)
     (subst (λ bs. IsLeadIndexSoFar notes bs (take (i + 1) pieces) (drop (i + 1) pieces) pieces) (sym same_bounds)
-      (subst (λ before. IsLeadIndexSoFar notes bounds before (drop (i + 1) pieces) pieces) (sym (take_more pieces i d within)) h))
+    (subst (λ before. IsLeadIndexSoFar notes bounds before (drop (i + 1) pieces) pieces) (sym (take_more pieces i d within)) h))
 
 pub comment_step : (notes new_notes : List Note) (bounds new_bounds : List ℕ) (pieces : List Piece) (i : ℕ) (d : Piece) (x : Note) → i < length pieces → (get_or pieces i d).kind ≡ Comment → x ≡ note_of (take i pieces) (get_or pieces i d) (take (length pieces - (i + 1)) (drop (i + 1) pieces)) → new_notes ≡ notes ++ x ∷ [] → new_bounds ≡ bounds → IsLeadIndexSoFar notes bounds (take i pieces) (drop i pieces) pieces → IsLeadIndexSoFar new_notes new_bounds (take (i + 1) pieces) (drop (i + 1) pieces) pieces
 comment_step notes new_notes bounds new_bounds pieces i d x within kind is same same_bounds h =
