@@ -9,3 +9,4 @@ pub mod LoneKind
 pub mod StringLemmas
 pub mod CommentLemmas
 pub mod FaultLaws
+pub mod NoteLemmas

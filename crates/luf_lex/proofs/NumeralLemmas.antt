@@ -119,6 +119,7 @@ numeral_first text n group scan within form = record {
   spelled = form;
   longest = λ other_group. absurd (other_group group);
   numeral = λ _. scan;
+  long = λ commented. cc;
 }
 
 

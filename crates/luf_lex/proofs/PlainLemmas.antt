@@ -122,6 +122,7 @@ plain_first text kind n group tried some within spelled longest = record {
   spelled = spelled;
   longest = λ _ other m t. longest other m (ap (λ g. is_tried g other) (sym group) ∙ t);
   numeral = λ numeric. cc;
+  long = λ commented. cc;
 }
 
 -- a run of bytes of one class is the first piece, where what is spelled with such a byte first has no others

@@ -7,3 +7,5 @@ pub mod Group
 pub mod Scan
 pub mod Cut
 pub mod Tokens
+pub mod Note
+pub mod Leads

@@ -8,6 +8,7 @@ mod cutting;
 mod fault;
 mod first;
 mod group;
+mod note;
 mod numeral;
 mod pieces;
 mod plain;
@@ -17,7 +18,8 @@ mod token;
 mod word;
 
 pub use fault::{LexErr, LexWhat};
-pub use luf_text::Span;
 pub use cutting::cut;
+pub use note::Note;
 pub use pieces::Cut;
+pub use luf_text::Span;
 pub use token::{Kind, Piece, Sign, Tok, Word};

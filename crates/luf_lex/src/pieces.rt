@@ -1,13 +1,19 @@
-// The pieces of a source, with an index of the tokens among them.
-ghost use Rattle.std.specs.Prelude.{◌≡◌, ◌≤◌, ◌↔◌, length, slice_get, IfOk, IsTrue};
+// The pieces of a source, with an index of the tokens and the comments among them.
+ghost use Rattle.std.specs.Prelude.{◌≡◌, ◌≤◌, ◌↔◌, length, slice_get, slice_index_or, IfOk, IsTrue};
 ghost use Rattle.std.specs.Option.{option_copied};
 ghost use Rattle.luf_lex.specs.Cut.{IsCut};
+ghost use Rattle.luf_lex.specs.Leads.{IsLeadIndex};
+ghost use Rattle.luf_lex.specs.Note.{lead_of, blank_of};
 ghost use Rattle.luf_lex.specs.Tokens.{toks_of, spans_of, spellings_of, tokens_of, token_places, IsIndex};
 
-use crate::{Kind, Piece, Span, Tok};
+use crate::note::{Leads, has_empty_line};
+use crate::{Kind, Note, Piece, Span, Tok};
 use luf_memory::Memory;
 use std::alloc::Global;
 use std::marker::Model;
+
+#[cfg(test)]
+mod tests;
 
 /// The pieces of a source, in order. A contract sees it as their list.
 #[derive(Debug, Drop)]
@@ -15,6 +21,7 @@ pub struct Cut {
     pieces: Vec<Piece>,
     /// The places of the tokens among the pieces.
     tokens: Vec<u32>,
+    leads: Leads,
 }
 
 impl Model for Cut {
@@ -23,11 +30,12 @@ impl Model for Cut {
 
     ghost Value = { List Piece };
 
+    ghost use Rattle.luf_lex.specs.Leads.{IsLeadIndex};
     ghost use Rattle.luf_lex.specs.Tokens.{IsIndex};
 
     ghost view = { λ c. c.pieces.items };
 
-    ghost invariant = { λ c. IsIndex c.tokens.items c.pieces.items };
+    ghost invariant = { λ c. (IsIndex c.tokens.items c.pieces.items) × IsLeadIndex c.leads.notes.items c.leads.bounds.items c.pieces.items };
 }
 
 impl Cut {
@@ -37,7 +45,12 @@ impl Cut {
         ensures { IfOk result (λ cut. cut ≡ pieces.items) }
     {
         let tokens = token_index(alloc, pieces.as_slice())?;
-        Ok(Cut { pieces, tokens })
+        let leads = Leads::of(alloc, pieces.as_slice())?;
+        Ok(Cut {
+            pieces,
+            tokens,
+            leads,
+        })
     }
 
     /// The pieces, in order.
@@ -88,6 +101,38 @@ impl Cut {
         let from = span.from as usize;
         let to = span.to as usize;
         Some(&src[from..to])
+    }
+
+    /// The comments between token `n - 1` and token `n`, in order: before the first token for 0, and after the
+    /// last one for `tokens`.
+    pub fn lead(&self, n: u32) -> &[Note]
+        requires { n ≤ length (toks_of self.now) }
+        ensures { result.now ≡ lead_of self.now n }
+    {
+        self.leads.get(n as usize)
+    }
+
+    /// Whether an empty line stands directly before token `n`, or before the end for `tokens`.
+    ///
+    /// It goes back over the blanks and line ends there, so that the calls for all tokens together are linear.
+    pub fn blank(&self, n: u32) -> bool
+        requires { n ≤ length (toks_of self.now) }
+        ensures { result ≡ blank_of self.now n }
+    {
+        has_empty_line(&self.pieces[..self.place_of(n)])
+    }
+
+    /// The place of token `n` among the pieces; their number from `tokens` on.
+    fn place_of(&self, n: u32) -> usize
+        ensures place { result ≡ slice_index_or (token_places 0 self.now) n (length self.now) }
+        ensures within { result ≤ length self.now }
+    {
+        let n = n as usize;
+        if n < self.tokens.len() {
+            self.tokens[n] as usize
+        } else {
+            self.pieces.len()
+        }
     }
 
     fn piece_of(&self, n: u32) -> Option<Piece>
