@@ -31,8 +31,8 @@ one_length text k j m n a b = by_order (cases_order m n)
   where
     by_order : (m ≡ n) ⊎ ((m < n) ⊎ (n < m)) → m ≡ n
     by_order (inl e) = e
-    by_order (inr (inl l)) = absurd (a.longest (λ numeric. omega (l, a.numeral numeric, b.numeral numeric)) j n b.tried l b.within b.spelled)
-    by_order (inr (inr l)) = absurd (b.longest (λ numeric. omega (l, a.numeral numeric, b.numeral numeric)) k m a.tried l a.within a.spelled)
+    by_order (inr (inl l)) = absurd (a.longest (λ numeric. omega (arith, l, a.numeral numeric, b.numeral numeric)) j n b.tried l b.within b.spelled)
+    by_order (inr (inr l)) = absurd (b.longest (λ numeric. omega (arith, l, a.numeral numeric, b.numeral numeric)) k m a.tried l a.within a.spelled)
 
 -- ---- which part stands at the front of a text
 
