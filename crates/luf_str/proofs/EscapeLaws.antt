@@ -10,7 +10,8 @@ use Rattle.luf_str.specs.Bytes.{is_line_byte, is_space, is_digit, is_hex_digit, 
 use Rattle.luf_str.specs.Pieces.{NoneAtFront, IsLineEnd}
 use Rattle.luf_str.specs.Escape.{IsEscape, NoEscape, letter_value}
 use Rattle.luf_str.specs.Escape as rule
-use Rattle.luf_str.specs.Reading.{bytes_of, line_end_length, hexadecimal_at, decimal_at, code_at, letter_at, escape_at}
+use Rattle.luf_str.specs.Meaning.{bytes_of}
+use Rattle.luf_str.specs.Reading.{line_end_length, hexadecimal_at, decimal_at, code_at, letter_at, escape_at}
 use Rattle.luf_str.proofs.Leading.{prefix_len-whole, all_leading, none_after, line_end-reads, line_byte_cases, first_line_byte, line_end_length-is}
 use Rattle.std.proofs.lemmas.List.Sums.{prefix_len-le-length}
 use Rattle.std.proofs.lemmas.List.{take_at, get_or_at, length-append, get_or_past, take_more, length-take-le}

@@ -45,3 +45,9 @@ same_pieces P bytes det (x ∷ xs) (y ∷ ys) m n all others stop stop' e =
     let first = det x y (flat_map bytes xs ++ m) (flat_map bytes ys ++ n) all.0 others.0 cut in
     let rest = same_pieces P bytes det xs ys m n all.1 others.1 stop stop' first.1 in
     (cons_is x y xs ys first.0 rest.0, rest.1)
+
+-- ---- texts that grow
+
+-- what is appended twice is appended once
+pub appended : (start done old new value : List ℕ) → old ≡ start ++ done → new ≡ old ++ value → new ≡ start ++ (done ++ value)
+appended start done old new value before after = after ∙ ap (λ t. t ++ value) before ∙ append_assoc start done value

@@ -1,12 +1,15 @@
 -- Reading a short string part by part.
 use Rattle.std.proofs.Common.{◌≡◌, ℕ, ◌+◌, ◌≤◌, true, List, [], ◌∷◌, ◌++◌, length, get_or, take, drop, refl, sym, ap, subst, ◌∙◌, arith, append_assoc}
 use Rattle.std.proofs.lemmas.Grind.{flat_map-append}
-use Rattle.std.proofs.lemmas.List.{append-nil, take-append-drop, length-append, length-take-le, drop-drop}
+use Rattle.std.proofs.lemmas.List.{append-nil, take-append-drop, length-append, length-take-le, drop-drop, length-drop}
 use Rattle.luf_str.specs.Bytes.{is_quote}
 use Rattle.luf_str.specs.Escape.{NoEscape}
 use Rattle.luf_str.specs.Spelling.{joined, IsShortSpelling}
 use Rattle.luf_str.specs.Value.{IsPart, Part, spelling_of, meaning_of, AreParts, IsShortValue, FirstBad}
-use Rattle.luf_str.specs.Front.{IsEnd}
+use Rattle.luf_str.specs.declared.escapes.Meaning.{Meaning}
+use Rattle.luf_str.specs.declared.fronts.Front.TheVariants as front
+use Rattle.luf_str.specs.Meaning.{bytes_of}
+use Rattle.luf_str.specs.Front.{IsFront, IsEnd}
 use Rattle.luf_str.proofs.InPlace.{in_place_push}
 use Rattle.luf_str.proofs.UnitLaws.{IsRest, unit_is_no_end, rest_behind_part}
 
@@ -39,12 +42,19 @@ one_more q spelling at done part next value r is =
       rest = rest_behind_part r.quote is r.rest;
     }
 
-pub goes_on : (q : ℕ) (spelling : List ℕ) (at : ℕ) (done : List ℕ) (n : ℕ) (value : List ℕ) → IsReadTo q spelling at (drop at spelling) done
+read_part : (q : ℕ) (spelling : List ℕ) (at : ℕ) (done : List ℕ) (n : ℕ) (value : List ℕ) → IsReadTo q spelling at (drop at spelling) done
     → n ≤ length (drop at spelling) → IsPart q (take n (drop at spelling)) (drop n (drop at spelling)) value → IsReadTo q spelling (at + n) (drop (at + n) spelling) (done ++ value)
-goes_on q spelling at done n value r le is =
+read_part q spelling at done n value r le is =
     let rest : List ℕ = drop at spelling in
     let more = one_more q spelling at done (take n rest) (drop n rest) value (subst (λ t. IsReadTo q spelling at t done) (sym (take-append-drop n rest)) r) is in
     subst (λ t. IsReadTo q spelling (at + n) t (done ++ value)) (drop-drop n at spelling) (subst (λ k. IsReadTo q spelling (at + k) (drop n rest) (done ++ value)) (length-take-le n rest le) more)
+
+-- a front that is a part is read
+pub goes_on : (q : ℕ) (spelling : List ℕ) (at : ℕ) (done rest : List ℕ) (n : ℕ) (m : Meaning) → IsReadTo q spelling at (drop at spelling) done → at ≤ length spelling
+    → rest ≡ drop at spelling → IsFront q rest (front.Part n m) → (at + n ≤ length spelling) × IsReadTo q spelling (at + n) (drop (at + n) spelling) (done ++ bytes_of m)
+goes_on q spelling at done rest n m r within is found =
+    let part = subst (λ t. IsFront q t (front.Part n m)) is found in
+    (omega (arith, part.1, length-drop at spelling), read_part q spelling at done n (bytes_of m) r part.1 part.2)
 
 -- where the end, the quote or a line end comes, the quote alone is left
 only_quote : (q : ℕ) (next : List ℕ) → is_quote q ≡ true → IsRest q next → IsEnd q next → next ≡ q ∷ []

@@ -5,7 +5,7 @@ use Rattle.luf_str.specs.declared.fronts.Front.TheVariants as front
 use Rattle.luf_str.specs.Bytes.{is_line_byte}
 use Rattle.luf_str.specs.Escape.{NoEscape}
 use Rattle.luf_str.specs.Value.{IsPart}
-use Rattle.luf_str.specs.Reading.{bytes_of}
+use Rattle.luf_str.specs.Meaning.{bytes_of}
 
 -- neither a part nor a backslash: the text's end, the quote or a line end
 abbrev pub IsEnd : ℕ → List ℕ → Type 0

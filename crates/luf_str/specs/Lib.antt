@@ -1,6 +1,7 @@
 pub mod Bytes
 pub mod Pieces
 pub mod Escape
+pub mod Meaning
 pub mod Spelling
 pub mod Value
 pub mod Requote

@@ -18,7 +18,10 @@ pub enum Front {
     End,
 }
 
-/// Reads what the text begins with. The text may go on behind the string, and the string may be cut by the text's end.
+/// Reads what the text begins with, as the inside of a short string in these quotes.
+///
+/// The text may go on behind the string, and it may end within it: an escape that the text's end cuts is bad, one that
+/// could go on there, as `\1` or `\z`, is whole.
 #[tactic(auto, using(crate::proofs::FrontLaws::front_laws))]
 pub fn front_of(text: &[u8], quote: u8) -> Front
     ensures { IsFront quote text.now result }

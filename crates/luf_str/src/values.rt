@@ -2,7 +2,8 @@
 
 ghost use Rattle.std.specs.Prelude.{◌≡◌, ◌⊎◌, ℕ, List, ◌++◌, ◌^◌, ◌<◌, ◌≤◌, length, take, slice_index, vec_len, OnOk, OnErr, IfSome, IfNone, IsErrOf};
 ghost use Rattle.luf_str.specs.Escape.{utf8, continuation};
-ghost use Rattle.luf_str.specs.Reading.{bytes_of};
+ghost use Rattle.luf_str.specs.Meaning.{bytes_of};
+ghost use Rattle.luf_str.specs.Pieces.{Appends};
 ghost use Rattle.luf_str.specs.Spelling.{IsShortSpelling, IsLongSpelling, IsLongOf, IsSpelling};
 ghost use Rattle.luf_str.specs.Value.{IsShortValue, IsLongText, IsLongValue, IsValue, FirstBad};
 
@@ -88,7 +89,8 @@ fn push_meaning(into: &mut Vec<u8>, meaning: Meaning) -> Result<(), Memory>
     Ok(())
 }
 
-/// The place of the first backslash of a short string that begins no escape, counted from 0. `None` where all escapes are good.
+/// The place of the first backslash of a short string that begins no escape, counted from 0, or `None` where all escapes
+/// are good, and the string has a value.
 pub fn first_bad(spelling: &[u8]) -> Option<u32>
     requires short { IsShortSpelling spelling.now }
     requires size { length spelling.now < 2 ^ 32 }
@@ -110,7 +112,7 @@ pub fn first_bad(spelling: &[u8]) -> Option<u32>
 fn push_short(spelling: &[u8], into: &mut Vec<u8>) -> Result<(), StrErr>
     requires short { IsShortSpelling spelling.now }
     requires size { length spelling.now < 2 ^ 32 }
-    ensures ok { OnOk result ((value : List ℕ) × IsShortValue spelling.now value × (into.new.items ≡ into.old.items ++ value)) }
+    ensures ok { OnOk result (Appends (IsShortValue spelling.now) into.old.items into.new.items) }
     ensures bad { (at : ℕ) → IsErrOf result (StrErr.Bad at) → FirstBad spelling.now at }
     ensures err { OnErr result (take (vec_len into.old) into.new.items ≡ into.old.items) }
 {
@@ -140,7 +142,7 @@ fn long_body(spelling: &[u8]) -> &[u8]
 
 /// Appends the value of a long string's body, or a front of it before an error.
 fn push_lines(body: &[u8], into: &mut Vec<u8>) -> Result<(), Memory>
-    ensures ok { OnOk result ((value : List ℕ) × IsLongText body.now value × (into.new.items ≡ into.old.items ++ value)) }
+    ensures ok { OnOk result (Appends (IsLongText body.now) into.old.items into.new.items) }
     ensures err { OnErr result (take (vec_len into.old) into.new.items ≡ into.old.items) }
 {
     let mut at = line_end_length(body);
@@ -161,7 +163,7 @@ fn push_lines(body: &[u8], into: &mut Vec<u8>) -> Result<(), Memory>
 fn push_value(spelling: &[u8], into: &mut Vec<u8>) -> Result<(), StrErr>
     requires spelling { IsSpelling spelling.now }
     requires size { length spelling.now < 2 ^ 32 }
-    ensures ok { OnOk result ((value : List ℕ) × IsValue spelling.now value × (into.new.items ≡ into.old.items ++ value)) }
+    ensures ok { OnOk result (Appends (IsValue spelling.now) into.old.items into.new.items) }
     ensures bad { (at : ℕ) → IsErrOf result (StrErr.Bad at) → FirstBad spelling.now at }
     ensures err { OnErr result (take (vec_len into.old) into.new.items ≡ into.old.items) }
 {
@@ -179,7 +181,7 @@ fn push_value(spelling: &[u8], into: &mut Vec<u8>) -> Result<(), StrErr>
 pub fn value_of(_alloc: Global, spelling: &[u8], into: &mut Vec<u8>) -> Result<(), StrErr>
     requires spelling { IsSpelling spelling.now }
     requires size { length spelling.now < 2 ^ 32 }
-    ensures ok { OnOk result ((value : List ℕ) × IsValue spelling.now value × (into.new.items ≡ into.old.items ++ value)) }
+    ensures ok { OnOk result (Appends (IsValue spelling.now) into.old.items into.new.items) }
     ensures bad { (at : ℕ) → IsErrOf result (StrErr.Bad at) → FirstBad spelling.now at }
     ensures err { OnErr result (into.new.items ≡ into.old.items) }
 {

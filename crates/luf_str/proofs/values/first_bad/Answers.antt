@@ -1,16 +1,14 @@
-use Rattle.std.proofs.Common.{◌++◌, get_or, subst, arith, length-drop, ℕ, List}
-use Rattle.luf_str.specs.declared.fronts.Front.TheVariants as front
-use Rattle.luf_str.specs.Reading.{bytes_of}
-use Rattle.luf_str.specs.Front.{IsFront, IsEnd}
+use Rattle.std.proofs.Common.{◌++◌, get_or, subst, ℕ, List}
+use Rattle.luf_str.specs.Meaning.{bytes_of}
+use Rattle.luf_str.specs.Front.{IsEnd}
 use Rattle.luf_str.proofs.PartLaws.{goes_on, ends}
 use Rattle.luf_str.proofs.values.first_bad.Goals as goal
 
 pub parts-preserved : goal.parts-preserved
 parts-preserved c =
-    let s : List ℕ = c.args.spelling.now in
     let state = c.parts.invariant.1 in
-    let part = subst (λ t. IsFront (get_or s 0 0) t (front.Part c.in-Part.length c.in-Part.meaning)) c.tail.ensures c.in-Part.ensures in
-    (omega (arith, part.1, length-drop c.parts.at s), (state.0 ++ bytes_of c.in-Part.meaning, goes_on _ s c.parts.at state.0 c.in-Part.length _ state.1 part.1 part.2))
+    let more = goes_on _ c.args.spelling.now c.parts.at state.0 _ c.in-Part.length c.in-Part.meaning state.1 c.parts.invariant.0 c.tail.ensures c.in-Part.ensures in
+    (more.0, (state.0 ++ bytes_of c.in-Part.meaning, more.1))
 
 pub returns-in-End-clause-none : goal.returns-in-End-clause-none
 returns-in-End-clause-none c =
