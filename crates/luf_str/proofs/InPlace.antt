@@ -17,6 +17,9 @@ pub in_place_push : {X : Type 0} (P : X → List ℕ → Type 0) (bytes : X → 
 in_place_push P bytes xs x next front last =
     in_place_join P bytes xs (x ∷ []) next (subst (λ t. AllInPlace P bytes xs (t ++ next)) (sym (append-nil (bytes x))) front) (last, tt)
 
+pub behind_first : (q : ℕ) (m n : List ℕ) → q ∷ m ≡ q ∷ n → m ≡ n
+behind_first q m n e = cc
+
 -- two ways to cut a text at one place are one
 pub same_cut : (a b c d : List ℕ) → a ++ b ≡ c ++ d → length a ≡ length c → (a ≡ c) × (b ≡ d)
 same_cut a b c d e len =

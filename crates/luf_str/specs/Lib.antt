@@ -7,3 +7,4 @@ pub mod Value
 pub mod Requote
 pub mod Reading
 pub mod Front
+pub mod ShortEnd

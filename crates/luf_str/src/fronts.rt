@@ -14,7 +14,9 @@ pub enum Front {
     BadEscape,
     /// A backslash, and then the text's end.
     LoneBackslash,
-    /// The text's end, the quote or a line end.
+    /// The quote.
+    Quote,
+    /// The text's end or a line end.
     End,
 }
 
@@ -31,7 +33,10 @@ pub fn front_of(text: &[u8], quote: u8) -> Front
     }
     let first = text[0];
     if first != b'\\' {
-        if first == quote || is_line_byte(first) {
+        if first == quote {
+            return Front::Quote;
+        }
+        if is_line_byte(first) {
             return Front::End;
         }
         return Front::Part {

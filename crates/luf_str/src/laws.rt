@@ -33,5 +33,4 @@ pub fn spellings_apart()
 /// A string has at most one spelling in other quotes.
 pub fn one_requoted()
     ensures { (spelling requoted other : List ℕ) (q : ℕ) → IsRequoted spelling q requoted → IsRequoted spelling q other → requoted ≡ other }
-{
-}
+{}

@@ -1,6 +1,6 @@
 //! The value of a string, and the first bad escape.
 
-ghost use Rattle.std.specs.Prelude.{◌≡◌, ◌⊎◌, ℕ, List, ◌++◌, ◌^◌, ◌<◌, ◌≤◌, length, take, slice_index, vec_len, OnOk, OnErr, IfSome, IfNone, IsErrOf};
+ghost use Rattle.std.specs.Prelude.{◌≡◌, ◌⊎◌, ℕ, List, ◌++◌, ◌^◌, ◌<◌, ◌≤◌, length, take, slice_index, vec_len, OnOk, OnErr, IsErrOf};
 ghost use Rattle.luf_str.specs.Escape.{utf8, continuation};
 ghost use Rattle.luf_str.specs.Meaning.{bytes_of};
 ghost use Rattle.luf_str.specs.Pieces.{Appends};
@@ -89,25 +89,6 @@ fn push_meaning(into: &mut Vec<u8>, meaning: Meaning) -> Result<(), Memory>
     Ok(())
 }
 
-/// The place of the first backslash of a short string that begins no escape, counted from 0, or `None` where all escapes
-/// are good, and the string has a value.
-pub fn first_bad(spelling: &[u8]) -> Option<u32>
-    requires short { IsShortSpelling spelling.now }
-    requires size { length spelling.now < 2 ^ 32 }
-    ensures none { IfNone result ((value : List ℕ) × IsShortValue spelling.now value) }
-    ensures bad { IfSome result (FirstBad spelling.now) }
-{
-    let quote = spelling[0];
-    let mut at = 1;
-    'parts: loop {
-        match front_of(tail(spelling, at), quote) {
-            Front::Part { length, .. } => at += length,
-            Front::End => return None,
-            Front::BadEscape | Front::LoneBackslash => return Some(at as u32),
-        }
-    }
-}
-
 /// Appends the value of a short string, or a front of it before an error.
 fn push_short(spelling: &[u8], into: &mut Vec<u8>) -> Result<(), StrErr>
     requires short { IsShortSpelling spelling.now }
@@ -124,8 +105,9 @@ fn push_short(spelling: &[u8], into: &mut Vec<u8>) -> Result<(), StrErr>
                 push_meaning(into, meaning)?;
                 at += length;
             }
-            Front::End => return Ok(()),
-            Front::BadEscape | Front::LoneBackslash => return Err(StrErr::Bad { at: at as u32 }),
+            Front::Quote => return Ok(()),
+            Front::BadEscape => return Err(StrErr::Bad { at: at as u32 }),
+            Front::LoneBackslash | Front::End => unreachable!(),
         }
     }
 }
