@@ -3,13 +3,11 @@ use Rattle.std.proofs.Common.{◌≡◌, ℕ, ◌+◌, ◌<◌, true, List, [], 
 use Rattle.std.specs.Prelude.{◌==◌}
 use Rattle.std.specs.List.{prefix_len}
 use Rattle.std.proofs.lemmas.List.{drop_at}
-use Rattle.luf_str.specs.Bytes.{is_quote, is_space}
-use Rattle.luf_str.specs.Spelling.{IsUnit, joined, opening, closing, IsShortSpelling, IsLongOf, IsLongSpelling, IsSpelling}
-use Rattle.luf_str.specs.Spelling as unit_rule
-use Rattle.luf_str.specs.Value.{IsShortValue, Part, spelling_of, AreParts, IsValue}
+use Rattle.luf_str.specs.Bytes.{is_quote}
+use Rattle.luf_str.specs.Spelling.{joined, opening, closing, IsShortSpelling, IsLongOf, IsLongSpelling, IsSpelling}
+use Rattle.luf_str.specs.Value.{IsShortValue, IsValue}
 use Rattle.luf_str.proofs.InPlace.{behind_first}
 use Rattle.luf_str.proofs.Follows.{unit_again}
-use Rattle.std.proofs.lemmas.Grind.{flat_map-append}
 use Rattle.luf_str.proofs.UnitLaws.{AreUnits, IsRest, unit_begins, rest_some, rest_behind_unit, parts_units, quote_is_no_bracket}
 use Rattle.luf_str.proofs.LongLaws.{level_front, level_is, opening_length}
 use Rattle.luf_str.proofs.Unique.{first_is, long_is_not_short}

@@ -1,13 +1,13 @@
 -- A short string in other quotes has the same value.
-use Rattle.std.proofs.Common.{◌≡◌, ◌≢◌, ℕ, ◌<◌, ◌⊎◌, ◌↔◌, Bool, true, false, cond, not, ◌||◌, ◌&&◌, eqb, List, [], ◌∷◌, ◌++◌, length, get_or, map, Some, refl, sym, ap, subst, ◌∙◌, arith, inl, inr, append_assoc}
-use Rattle.std.specs.Prelude.{IsTrue, ◌==◌}
+use Rattle.std.proofs.Common.{◌≡◌, ◌≢◌, ℕ, ◌<◌, ◌⊎◌, ◌↔◌, true, false, cond, eqb, List, [], ◌∷◌, ◌++◌, length, get_or, map, Some, refl, sym, ap, subst, ◌∙◌, arith, inl, inr, append_assoc}
+use Rattle.std.specs.Prelude.{IsTrue}
 use Rattle.std.specs.List.{AllByRecursion}
 use Rattle.std.proofs.lemmas.Grind.{flat_map-append}
 use Rattle.std.proofs.lemmas.List.{append-nil}
 use Rattle.std.proofs.lemmas.Bool.{eqb-true, false≢true}
 use Rattle.std.proofs.lemmas.Bool.Decides.{nat_tests}
-use Rattle.luf_str.specs.Bytes.{is_line_byte, is_line_pair, is_space, is_digit, is_quote, is_plain}
-use Rattle.luf_str.specs.Pieces.{NoneAtFront, IsLineEnd}
+use Rattle.luf_str.specs.Bytes.{is_line_byte, is_space, is_quote, is_plain}
+use Rattle.luf_str.specs.Pieces.{IsLineEnd}
 use Rattle.luf_str.specs.Escape.{IsEscape, letter_value}
 use Rattle.luf_str.specs.Escape as escape_rule
 use Rattle.luf_str.specs.Spelling.{IsUnit, joined, IsCut, IsShortIn, IsLongSpelling}

@@ -7,7 +7,7 @@ use Rattle.luf_str.specs.Spelling.{IsUnit, joined, IsShortSpelling}
 use Rattle.luf_str.specs.Requote.{requoted_unit, IsShortRequoted}
 use Rattle.luf_str.specs.Reading.{unit_length}
 use Rattle.luf_str.proofs.InPlace.{in_place_push}
-use Rattle.luf_str.proofs.UnitLaws.{AreUnits, IsRest, unit_length-is, unit_begins, unit_some, rest_some, only_quote}
+use Rattle.luf_str.proofs.UnitLaws.{AreUnits, IsRest, unit_length-is, unit_some, rest_some, only_quote}
 
 -- The short string in the quotes q is cut into units up to next; in the quotes p these units are done.
 pub record IsCutTo (q p : ℕ) (spelling : List ℕ) (next done : List ℕ) : Type 0 where

@@ -1,5 +1,5 @@
 -- What the front of a text is, as functions. Only private functions cite these; the laws in proofs/ tie them to the relations.
-use Rattle.std.specs.Prelude.{ℕ, ◌+◌, ◌-◌, ◌*◌, ◌^◌, ◌&&◌, ◌==◌, nat_lt, nat_le, List, [], ◌∷◌, take, drop, slice_index, Option, Some, None, option_map, if◌then◌else◌}
+use Rattle.std.specs.Prelude.{ℕ, ◌+◌, ◌-◌, ◌*◌, ◌^◌, ◌&&◌, ◌==◌, nat_lt, nat_le, List, take, drop, slice_index, Option, Some, None, option_map, if◌then◌else◌}
 use Rattle.std.specs.List.{prefix_len}
 use Rattle.luf_str.specs.declared.escapes.Meaning.{Meaning}
 use Rattle.luf_str.specs.declared.escapes.Meaning.TheVariants.{Byte, Code, Nothing}

@@ -1,4 +1,4 @@
-use Rattle.std.proofs.Common.{◌≡◌, ◌++◌, ◌∷◌, [], length, take, drop, ℕ, List, ap, ◌∙◌, arith, append_assoc}
+use Rattle.std.proofs.Common.{◌≡◌, ◌++◌, ◌∷◌, [], length, take, drop, ℕ, List, ap, ◌∙◌, arith}
 use Rattle.luf_str.specs.Reading.{unit_length}
 use Rattle.luf_str.specs.Requote.{quote_byte, requoted_unit}
 use Rattle.luf_str.proofs.InPlace.{appended}

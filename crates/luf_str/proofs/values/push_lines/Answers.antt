@@ -1,4 +1,4 @@
-use Rattle.std.proofs.Common.{◌≡◌, ◌++◌, [], ◌∷◌, get_or, length, drop, take, subst, ap, sym, ◌∙◌, append_assoc, arith, length-drop, ℕ, List, add-zero}
+use Rattle.std.proofs.Common.{◌≡◌, ◌++◌, [], ◌∷◌, get_or, length, drop, take, subst, ap, sym, ◌∙◌, arith, length-drop, ℕ, List, add-zero}
 use Rattle.std.proofs.lemmas.List.{append-nil, get_or-drop}
 use Rattle.luf_str.specs.Value.{IsLongPart}
 use Rattle.luf_str.specs.Reading.{line_end_length}
