@@ -12,6 +12,7 @@ abbrev pub IsEnd : List ℕ → Type 0
 IsEnd [] = ⊤
 IsEnd (b ∷ text) = IsTrue (is_line_byte b)
 
+-- what `front_of` answers
 abbrev pub IsFront : ℕ → List ℕ → Front → Type 0
 IsFront q text (front.Part n meaning) = (0 < n) × (n ≤ length text) × IsPart q (take n text) (drop n text) (bytes_of meaning)
 IsFront q text front.BadEscape = (next : List ℕ) × (text ≡ 92 ∷ next) × (next ≢ []) × NoEscape next

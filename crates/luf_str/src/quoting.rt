@@ -1,11 +1,9 @@
 //! The quotes in a string, and its spelling in other quotes.
 
-ghost use Rattle.std.specs.Prelude.{◌≡◌, ℕ, List, ◌++◌, ◌^◌, ◌<◌, ◌≤◌, ◌==◌, length, take, drop, count_by, vec_len, OnOk, OnErr, IsTrue};
-ghost use Rattle.luf_str.specs.Bytes.{is_quote};
+ghost use Rattle.std.specs.Prelude.{◌≡◌, ◌++◌, ◌^◌, ◌<◌, ◌==◌, length, take, count_by, vec_len, OnOk, OnErr};
 ghost use Rattle.luf_str.specs.Reading.{unit_length};
 ghost use Rattle.luf_str.specs.Pieces.{Appends};
-ghost use Rattle.luf_str.specs.Spelling.{IsShortIn, IsShortSpelling, IsLongSpelling, IsSpelling};
-ghost use Rattle.luf_str.specs.Value.{IsValue};
+ghost use Rattle.luf_str.specs.Spelling.{IsShortSpelling, IsLongSpelling, IsSpelling};
 ghost use Rattle.luf_str.specs.Requote.{quote_byte, other_quote, inside, requoted_unit, IsShortRequoted, IsRequoted, IsSameString};
 
 use crate::bytes::{byte_at, head, is_line_byte, leading_spaces, line_end_length, tail};

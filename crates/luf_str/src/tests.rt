@@ -1,6 +1,6 @@
 //! Tables from the Lua 5.4 manual, 3.1. Each spelling is tested to be one before a call that requires it.
 
-ghost use Rattle.std.specs.Prelude.{◌≡◌, ℕ, List, ◌++◌, ◌<◌, ◌≤◌, ◌↔◌, length, IsTrue};
+ghost use Rattle.std.specs.Prelude.{◌≡◌, ℕ, List, ◌++◌, ◌↔◌, length, IsTrue};
 ghost use Rattle.luf_str.specs.Spelling.{closing, IsShortSpelling, IsLongSpelling, IsSpelling};
 
 use super::*;

@@ -1,11 +1,11 @@
 //! The value of a string, and the first bad escape.
 
-ghost use Rattle.std.specs.Prelude.{◌≡◌, ◌⊎◌, ℕ, List, ◌++◌, ◌^◌, ◌<◌, ◌≤◌, length, take, slice_index, vec_len, OnOk, OnErr, IsErrOf};
+ghost use Rattle.std.specs.Prelude.{◌≡◌, ℕ, List, ◌++◌, ◌^◌, ◌<◌, length, take, vec_len, OnOk, OnErr, IsErrOf};
 ghost use Rattle.luf_str.specs.Escape.{utf8, continuation};
 ghost use Rattle.luf_str.specs.Meaning.{bytes_of};
 ghost use Rattle.luf_str.specs.Pieces.{Appends};
 ghost use Rattle.luf_str.specs.Spelling.{IsShortSpelling, IsLongSpelling, IsLongOf, IsSpelling};
-ghost use Rattle.luf_str.specs.Value.{IsShortValue, IsLongText, IsLongValue, IsValue, FirstBad};
+ghost use Rattle.luf_str.specs.Value.{IsShortValue, IsLongText, IsValue, FirstBad};
 
 use crate::bytes::{head, leading_equals, line_end_length, tail};
 use crate::escapes::Meaning;
