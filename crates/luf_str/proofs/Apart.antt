@@ -3,23 +3,14 @@ use Rattle.std.proofs.Common.{◌≡◌, ℕ, ◌+◌, ◌<◌, true, List, [], 
 use Rattle.std.specs.Prelude.{◌==◌}
 use Rattle.std.specs.List.{prefix_len}
 use Rattle.std.proofs.lemmas.List.{drop_at}
-use Rattle.luf_str.specs.Bytes.{is_quote, is_space}
-use Rattle.luf_str.specs.Spelling.{IsUnit, joined, opening, closing, IsShortSpelling, IsLongOf, IsLongSpelling, IsSpelling}
-use Rattle.luf_str.specs.Spelling as unit_rule
-use Rattle.luf_str.specs.Value.{Part, spelling_of, AreParts, IsValue}
-use Rattle.luf_str.proofs.InPlace.{in_place_join}
-use Rattle.std.proofs.lemmas.Grind.{flat_map-append}
-use Rattle.luf_str.proofs.UnitLaws.{AreUnits, IsRest, unit_begins, rest_some, rest_behind_unit, part_units, quote_is_no_bracket}
+use Rattle.luf_str.specs.Bytes.{is_quote}
+use Rattle.luf_str.specs.Spelling.{joined, opening, closing, IsShortSpelling, IsLongOf, IsLongSpelling, IsSpelling}
+use Rattle.luf_str.specs.Value.{IsShortValue, IsValue}
+use Rattle.luf_str.proofs.InPlace.{behind_first}
+use Rattle.luf_str.proofs.Follows.{unit_again}
+use Rattle.luf_str.proofs.UnitLaws.{AreUnits, IsRest, unit_begins, rest_some, rest_behind_unit, parts_units, quote_is_no_bracket}
 use Rattle.luf_str.proofs.LongLaws.{level_front, level_is, opening_length}
 use Rattle.luf_str.proofs.Unique.{first_is, long_is_not_short}
-use Rattle.luf_str.proofs.Requoting.{HasSameFront, none_again, spaces_apart, line_end_again}
-
--- a unit stays one where the same byte follows
-unit_again : {q : ℕ} {u m : List ℕ} (n : List ℕ) → HasSameFront m n → IsUnit q u m → IsUnit q u n
-unit_again n same (unit_rule.plain q b m h) = unit_rule.plain q b n h
-unit_again n same (unit_rule.skip q spaces m all none) = unit_rule.skip q spaces n all (none_again is_space m n spaces_apart same none)
-unit_again n same (unit_rule.line_end q line m h) = unit_rule.line_end q line n (line_end_again line m n same h)
-unit_again n same (unit_rule.other q b m no_z no_line) = unit_rule.other q b n no_z no_line
 
 front_of_some : (m more : List ℕ) → 0 < length m → get_or m 0 0 ≡ get_or (m ++ more) 0 0
 front_of_some [] more some = absurd (omega arith)
@@ -37,10 +28,7 @@ nothing_behind q (u ∷ units) more quote all rest =
     let is = unit_again (next ++ more) (inl (front_of_some next more (rest_some q next (units, all.1, refl)))) all.0 in
     nothing_behind q units more quote all.1 (rest_behind_unit q u (next ++ more) quote is (subst (IsRest q) regrouped rest))
 
-behind_first : (q : ℕ) (m n : List ℕ) → q ∷ m ≡ q ∷ n → m ≡ n
-behind_first q m n e = cc
-
-short_apart : (s more : List ℕ) → IsShortSpelling s → IsShortSpelling (s ++ more) → more ≡ []
+pub short_apart : (s more : List ℕ) → IsShortSpelling s → IsShortSpelling (s ++ more) → more ≡ []
 short_apart s more (q, hq, (us, cut)) (p, hp, (ws, cut')) =
     let whole : s ++ more ≡ q ∷ ((joined us ++ q ∷ []) ++ more) = ap (λ t. t ++ more) cut.1 in
     let same : p ≡ q = sym (first_is p (s ++ more) _ cut'.1) ∙ first_is q (s ++ more) _ whole in
@@ -62,16 +50,9 @@ apart s more (inl x) (inr y) = absurd (long_is_not_short x.0 (s ++ more) _ y.0 y
 apart s more (inr x) (inl y) = absurd (quote_is_no_bracket y.0 y.1 (sym (first_is 91 (s ++ more) _ (ap (λ t. t ++ more) x.2.0)) ∙ first_is y.0 (s ++ more) _ y.2.1.1))
 apart s more (inr x) (inr y) = long_apart s more x y
 
-parts_units : (q : ℕ) (parts : List Part) (next : List ℕ) → is_quote q ≡ true → AreParts q parts next → (units : List (List ℕ)) × AreUnits q units next × (spelling_of parts ≡ joined units)
-parts_units q [] next quote all = ([], tt, refl)
-parts_units q (p ∷ parts) next quote all =
-    let first = part_units quote all.0 in
-    let rest = parts_units q parts next quote all.1 in (
-      first.0 ++ rest.0,
-      in_place_join (IsUnit q) (λ u. u) first.0 rest.0 next (subst (λ t. AreUnits q first.0 (t ++ next)) rest.2 first.1) rest.1,
-      ap (λ t. t ++ spelling_of parts) first.2 ∙ ap (λ t. joined first.0 ++ t) rest.2 ∙ sym (flat_map-append (λ (u : List ℕ). u) first.0 rest.0),
-    )
+pub short_is_spelled : (s v : List ℕ) → IsShortValue s v → IsShortSpelling s
+short_is_spelled s v (q, parts, quote, all, e, is) = let u = parts_units q parts (q ∷ []) quote all in (q, quote, (u.0, (u.1, e ∙ ap (λ t. q ∷ (t ++ q ∷ [])) u.2)))
 
 pub valued_is_spelled : (s v : List ℕ) → IsValue s v → IsSpelling s
-valued_is_spelled s v (inl (q, parts, quote, all, e, is)) = let u = parts_units q parts (q ∷ []) quote all in inl (q, quote, (u.0, (u.1, e ∙ ap (λ t. q ∷ (t ++ q ∷ [])) u.2)))
+valued_is_spelled s v (inl x) = inl (short_is_spelled s v x)
 valued_is_spelled s v (inr x) = inr (x.0, x.1, x.2)

@@ -10,7 +10,8 @@ use Rattle.luf_str.specs.Bytes.{is_line_byte, is_space, is_digit, is_hex_digit, 
 use Rattle.luf_str.specs.Pieces.{NoneAtFront, IsLineEnd}
 use Rattle.luf_str.specs.Escape.{IsEscape, NoEscape, letter_value}
 use Rattle.luf_str.specs.Escape as rule
-use Rattle.luf_str.specs.Reading.{bytes_of, line_end_length, hexadecimal_at, decimal_at, code_at, letter_at, escape_at}
+use Rattle.luf_str.specs.Meaning.{bytes_of}
+use Rattle.luf_str.specs.Reading.{line_end_length, hexadecimal_at, decimal_at, code_at, letter_at, escape_at}
 use Rattle.luf_str.proofs.Leading.{prefix_len-whole, all_leading, none_after, line_end-reads, line_byte_cases, first_line_byte, line_end_length-is}
 use Rattle.std.proofs.lemmas.List.Sums.{prefix_len-le-length}
 use Rattle.std.proofs.lemmas.List.{take_at, get_or_at, length-append, get_or_past, take_more, length-take-le}
@@ -177,9 +178,9 @@ code_sound (b ∷ text) n m e =
     let count : ℕ = prefix_len is_hex_digit text in
     let number : ℕ = hex_number (take count text) in
     let p = passed _ _ _ e in
-    let brace = both _ _ p.0 in
-    let some = both _ _ brace.1 in
-    let fits = both _ _ some.1 in
+    let brace : (eqb b 123 ≡ true) × ((ltb 0 count && (ltb number (2 ^ 31) && eqb (get_or text count 0) 125)) ≡ true) = both _ _ p.0 in
+    let some : (ltb 0 count ≡ true) × ((ltb number (2 ^ 31) && eqb (get_or text count 0) 125) ≡ true) = both _ _ brace.1 in
+    let fits : (ltb number (2 ^ 31) ≡ true) × (eqb (get_or text count 0) 125 ≡ true) = both _ _ some.1 in
     let is_brace : b ≡ 123 = eqb-true b 123 brace.0 in
     let at_close : get_or text count 0 ≡ 125 = eqb-true _ _ fits.1 in
     let inside : count < length text = elim (cases_lt count (length text)) [ inl lt ↦ lt | inr le ↦ absurd (omega (arith, get_or_past text count 0 le)) ] in

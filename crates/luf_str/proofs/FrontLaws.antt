@@ -1,5 +1,5 @@
 -- What `front_of` answers, in each of its cases.
-use Rattle.std.proofs.Common.{◌≡◌, ◌≢◌, ℕ, suc, ◌+◌, ◌<◌, ◌⊎◌, true, false, List, [], ◌∷◌, length, get_or, drop, Some, None, refl, sym, ap, subst, arith}
+use Rattle.std.proofs.Common.{◌≡◌, ◌≢◌, ℕ, suc, ◌+◌, ◌<◌, true, false, List, [], ◌∷◌, length, get_or, drop, Some, None, refl, sym, ap, subst, arith}
 use Rattle.std.proofs.lemmas.Bool.Decides.{nat_tests}
 use Rattle.luf_str.specs.declared.escapes.Meaning.{Meaning}
 use Rattle.luf_str.specs.declared.escapes.Meaning.TheVariants.{Byte}
@@ -10,13 +10,17 @@ use Rattle.luf_str.specs.Reading.{escape_at}
 use Rattle.luf_str.specs.Front.{IsEnd, IsFront}
 use Rattle.luf_str.proofs.EscapeLaws.{sound, none_reads}
 
-pub empty_front : (q : ℕ) (text : List ℕ) → length text ≡ 0 → IsEnd q text
-empty_front q [] e = tt
-empty_front q (b ∷ text) e = absurd (omega arith)
+pub empty_front : (text : List ℕ) → length text ≡ 0 → IsEnd text
+empty_front [] e = tt
+empty_front (b ∷ text) e = absurd (omega arith)
 
-pub end_front : (q : ℕ) (text : List ℕ) → (get_or text 0 0 ≡ q) ⊎ (is_line_byte (get_or text 0 0) ≡ true) → IsEnd q text
-end_front q [] e = tt
-end_front q (b ∷ text) e = e
+pub quote_front : (q : ℕ) (text : List ℕ) → 0 < length text → get_or text 0 0 ≡ q → IsFront q text front.Quote
+quote_front q [] some e = absurd (omega arith)
+quote_front q (b ∷ text) some e = (text, ap (λ x. x ∷ text) e)
+
+pub end_front : (text : List ℕ) → is_line_byte (get_or text 0 0) ≡ true → IsEnd text
+end_front [] e = tt
+end_front (b ∷ text) e = e
 
 pub plain_front : (q : ℕ) (text : List ℕ) (b : ℕ) → 0 < length text → b ≡ get_or text 0 0 → b ≢ 92 → b ≢ q → is_line_byte b ≡ false → IsFront q text (front.Part 1 (Byte b))
 plain_front q [] b some e no_backslash no_quote no_line = absurd (omega arith)
@@ -42,4 +46,4 @@ bad_front q (a ∷ []) is more none = absurd (more refl)
 bad_front q (a ∷ b ∷ text) is more none = (b ∷ text, ap (λ x. x ∷ b ∷ text) is, (λ e. absurd cc), none_reads (b ∷ text) none)
 
 -- for `front_of`
-pub ruleset front_laws = (empty_front, end_front, plain_front, escape_front, lone_front, bad_front)
+pub ruleset front_laws = (empty_front, quote_front, end_front, plain_front, escape_front, lone_front, bad_front)

@@ -17,6 +17,9 @@ pub in_place_push : {X : Type 0} (P : X → List ℕ → Type 0) (bytes : X → 
 in_place_push P bytes xs x next front last =
     in_place_join P bytes xs (x ∷ []) next (subst (λ t. AllInPlace P bytes xs (t ++ next)) (sym (append-nil (bytes x))) front) (last, tt)
 
+pub behind_first : (q : ℕ) (m n : List ℕ) → q ∷ m ≡ q ∷ n → m ≡ n
+behind_first q m n e = cc
+
 -- two ways to cut a text at one place are one
 pub same_cut : (a b c d : List ℕ) → a ++ b ≡ c ++ d → length a ≡ length c → (a ≡ c) × (b ≡ d)
 same_cut a b c d e len =
@@ -45,3 +48,9 @@ same_pieces P bytes det (x ∷ xs) (y ∷ ys) m n all others stop stop' e =
     let first = det x y (flat_map bytes xs ++ m) (flat_map bytes ys ++ n) all.0 others.0 cut in
     let rest = same_pieces P bytes det xs ys m n all.1 others.1 stop stop' first.1 in
     (cons_is x y xs ys first.0 rest.0, rest.1)
+
+-- ---- texts that grow
+
+-- what is appended twice is appended once
+pub appended : (start done old new value : List ℕ) → old ≡ start ++ done → new ≡ old ++ value → new ≡ start ++ (done ++ value)
+appended start done old new value before after = after ∙ ap (λ t. t ++ value) before ∙ append_assoc start done value

@@ -4,10 +4,11 @@ pub mod EscapeLaws
 pub mod FrontLaws
 pub mod InPlace
 pub mod UnitLaws
-pub mod PartLaws
-pub mod LongLaws
+pub mod Follows
 pub mod UnitReading
+pub mod LongLaws
 pub mod Unique
 pub mod Requoting
 pub mod Apart
+pub mod PartLaws
 pub mod Spelled

@@ -1,6 +1,6 @@
 -- What a test of a spelling finds, used by the crate's tests alone.
-use Rattle.std.proofs.Common.{◌≡◌, ◌≢◌, ℕ, zero, suc, ◌+◌, ◌-◌, ◌<◌, ◌≤◌, ◌⊎◌, ◌↔◌, Bool, true, false, cond, eqb, List, [], ◌∷◌, ◌++◌, length, get_or, take, drop, replicate, refl, sym, ap, subst, ◌∙◌, arith, inl, inr, append_assoc, length-append, length-drop}
-use Rattle.std.specs.Prelude.{IsTrue, ◌==◌}
+use Rattle.std.proofs.Common.{◌≡◌, ◌≢◌, ℕ, suc, ◌+◌, ◌-◌, ◌<◌, ◌≤◌, ◌↔◌, true, false, cond, eqb, List, [], ◌∷◌, ◌++◌, length, get_or, take, drop, replicate, refl, sym, ap, subst, ◌∙◌, arith, inl, inr, append_assoc, length-append, length-drop}
+use Rattle.std.specs.Prelude.{◌==◌}
 use Rattle.std.specs.List.{prefix_len}
 use Rattle.std.proofs.lemmas.Bool.{eqb-true, cases_lt}
 use Rattle.std.proofs.lemmas.Bool.Decides.{nat_tests}
@@ -68,7 +68,7 @@ equals_front [] = refl
 equals_front (b ∷ text) =
     elim (eqb b 61) as (λ t. eqb b 61 ≡ t → take (cond t (1 + prefix_len (λ b. b == 61) text) 0) (b ∷ text) ≡ replicate (cond t (1 + prefix_len (λ b. b == 61) text) 0) 61) [
       | true ↦ λ yes. let e : 1 + prefix_len (λ b. b == 61) text ≡ suc (prefix_len (λ b. b == 61) text) = omega arith in
-        rw e (ap (λ x. x ∷ take (prefix_len (λ b. b == 61) text) text) (eqb-true b 61 yes) ∙ ap (λ xs. 61 ∷ xs) (equals_front text))
+          rw e (ap (λ x. x ∷ take (prefix_len (λ b. b == 61) text) text) (eqb-true b 61 yes) ∙ ap (λ xs. 61 ∷ xs) (equals_front text))
       | false ↦ λ differs. refl
     ] refl
 
@@ -83,10 +83,11 @@ bracket_front text level c is at =
 -- what closes has the signs and the byte
 pub closes_front : (text : List ℕ) (level : ℕ) (behind : List ℕ) → text ≡ closing level ++ behind → (get_or text 0 0 ≡ 93) × (prefix_len (λ b. b == 61) (drop 1 text) ≡ level) × (get_or (drop 1 text) level 0 ≡ 93)
 closes_front text level behind e =
-    let regrouped : drop 1 text ≡ replicate level 61 ++ 93 ∷ behind = ap (drop 1) e ∙ append_assoc (replicate level 61) (93 ∷ []) behind in
-    (ap (λ t. get_or t 0 0) e,
+    let regrouped : drop 1 text ≡ replicate level 61 ++ 93 ∷ behind = ap (drop 1) e ∙ append_assoc (replicate level 61) (93 ∷ []) behind in (
+      ap (λ t. get_or t 0 0) e,
       ap (prefix_len (λ b. b == 61)) regrouped ∙ prefix_len-whole (λ b. b == 61) (replicate level 61) (93 ∷ behind) (all_equals level) refl ∙ length-replicate {A = ℕ} level 61,
-      ap (λ t. get_or t level 0) regrouped ∙ get_or_at (replicate level 61) 93 behind 0 level (length-replicate {A = ℕ} level 61))
+      ap (λ t. get_or t level 0) regrouped ∙ get_or_at (replicate level 61) 93 behind 0 level (length-replicate {A = ℕ} level 61),
+    )
 
 pub cons_back : (text : List ℕ) (b : ℕ) → 0 < length text → get_or text 0 0 ≡ b → text ≡ b ∷ drop 1 text
 cons_back [] b some e = absurd (omega arith)
@@ -94,24 +95,31 @@ cons_back (a ∷ text) b some e = ap (λ x. x ∷ text) e
 
 -- whether a closing bracket of the level stands at the front
 pub closes_iff : (text behind : List ℕ) (level count last : ℕ) → get_or text 0 0 ≡ 93 → behind ≡ drop 1 text → count ≡ prefix_len (λ b. b == 61) behind → last ≡ get_or behind level 0
-  → ((count ≡ level) × (last ≡ 93)) ↔ ((rest : List ℕ) × (text ≡ closing level ++ rest))
-closes_iff text behind level count last first e n l =
-    (λ h. let some : 0 < length text = elim (cases_lt 0 (length text)) [ inl lt ↦ lt | inr le ↦ absurd (omega (arith, get_or_past text 0 0 le)) ] in
+    → ((count ≡ level) × (last ≡ 93)) ↔ ((rest : List ℕ) × (text ≡ closing level ++ rest))
+closes_iff text behind level count last first e n l = (
+  λ h. let some : 0 < length text = elim (cases_lt 0 (length text)) [ inl lt ↦ lt | inr le ↦ absurd (omega (arith, get_or_past text 0 0 le)) ] in
       let front = bracket_front (drop 1 text) level 92 (sym h.0 ∙ n ∙ ap (prefix_len (λ b. b == 61)) e) (ap (λ t. get_or t level 0) (sym e) ∙ sym l ∙ h.1) in
       (drop (level + 1) (drop 1 text), cons_back text 93 some first ∙ ap (λ t. 93 ∷ t) front),
-    λ h. let f = closes_front text level h.0 h.1 in (n ∙ ap (prefix_len (λ b. b == 61)) e ∙ f.1, l ∙ ap (λ t. get_or t level 0) e ∙ f.2))
+  λ h. let f = closes_front text level h.0 h.1 in (n ∙ ap (prefix_len (λ b. b == 61)) e ∙ f.1, l ∙ ap (λ t. get_or t level 0) e ∙ f.2),
+)
 
 -- the first closing bracket is at the end
 pub long_found : (text inner : List ℕ) (level at : ℕ) (behind : List ℕ) → text ≡ opening level ++ inner → drop at inner ≡ closing level ++ behind → at + level + 2 ≡ length inner
-  → ((k : ℕ) → k < at → (rest : List ℕ) → drop k inner ≡ closing level ++ rest → ⊥) → IsLongSpelling text
+    → ((k : ℕ) → k < at → (rest : List ℕ) → drop k inner ≡ closing level ++ rest → ⊥) → IsLongSpelling text
 long_found text inner level at behind e closes ends none =
     let lengths : length inner - at ≡ level + 2 + length behind = omega (arith, sym (length-drop at inner), ap length closes, length-append (closing level) behind, closing_length level) in
     let nothing : behind ≡ [] = nil_from_length behind (omega arith) in
     let close : drop at inner ≡ closing level = closes ∙ ap (λ t. closing level ++ t) nothing ∙ append-nil (closing level) in
-    let cut : inner ≡ take at inner ++ closing level = sym (take-append-drop at inner) ∙ ap (λ t. take at inner ++ t) close in
-    (level, take at inner, (e ∙ ap (λ t. opening level ++ t) cut, λ before after f.
-      let whole : inner ≡ before ++ (closing level ++ after) = cut ∙ f in
-      elim (cases_lt (length before) at) [
-        | inl lt ↦ absurd (none (length before) lt after (ap (drop (length before)) whole ∙ drop_at before (closing level ++ after) _ refl))
-        | inr le ↦ nil_from_length after (omega (arith, ap length whole, length-append before (closing level ++ after), length-append (closing level) after, closing_length level))
-      ]))
+    let cut : inner ≡ take at inner ++ closing level = sym (take-append-drop at inner) ∙ ap (λ t. take at inner ++ t) close in (
+      level,
+      take at inner,
+      (
+        e ∙ ap (λ t. opening level ++ t) cut,
+        λ before after f.
+            let whole : inner ≡ before ++ (closing level ++ after) = cut ∙ f in
+            elim (cases_lt (length before) at) [
+              | inl lt ↦ absurd (none (length before) lt after (ap (drop (length before)) whole ∙ drop_at before (closing level ++ after) _ refl))
+              | inr le ↦ nil_from_length after (omega (arith, ap length whole, length-append before (closing level ++ after), length-append (closing level) after, closing_length level))
+            ],
+      ),
+    )

@@ -1,19 +1,21 @@
 -- A string has at most one value, and not both a value and a bad escape.
-use Rattle.std.proofs.Common.{◌≡◌, ◌≢◌, ℕ, ◌+◌, true, false, List, [], ◌∷◌, ◌++◌, length, get_or, take, drop, refl, sym, ap, subst, ◌∙◌, arith, inl, inr}
+use Rattle.std.proofs.Common.{◌≡◌, ◌≢◌, ℕ, ◌+◌, true, false, List, [], ◌∷◌, ◌++◌, length, get_or, take, drop, map, refl, sym, ap, subst, ◌∙◌, arith, inl, inr}
 use Rattle.std.proofs.lemmas.List.{append-nil}
 use Rattle.std.proofs.lemmas.Bool.Decides.{nat_tests}
 use Rattle.luf_str.specs.declared.escapes.Meaning.{Meaning}
 use Rattle.luf_str.specs.Bytes.{is_line_byte, is_quote, is_plain}
-use Rattle.luf_str.specs.Pieces.{IsLineEnd}
+use Rattle.luf_str.specs.Pieces.{AllInPlace, IsLineEnd}
 use Rattle.luf_str.specs.Escape.{IsEscape, NoEscape}
-use Rattle.luf_str.specs.Spelling.{IsLongOf}
+use Rattle.luf_str.specs.Spelling.{IsUnit, joined, IsLongOf}
 use Rattle.luf_str.specs.Value.{IsPart, IsLongPart, Part, spelling_of, meaning_of, AreParts, AreLongParts, IsDropped, IsLongText, IsShortValue, IsLongValue, IsValue, FirstBad}
 use Rattle.luf_str.specs.Value as rule
-use Rattle.luf_str.specs.Reading.{bytes_of, line_end_length, escape_at}
+use Rattle.luf_str.specs.Meaning.{bytes_of}
+use Rattle.luf_str.specs.Reading.{line_end_length, unit_length, escape_at}
 use Rattle.luf_str.proofs.Leading.{line_end_length-is}
 use Rattle.luf_str.proofs.InPlace.{same_cut, same_pieces, IsDetermined, NoPiece}
 use Rattle.luf_str.proofs.EscapeLaws.{complete, found}
-use Rattle.luf_str.proofs.UnitLaws.{backslash_is_no_quote, plain_is_no_quote, quote_is_no_bracket}
+use Rattle.luf_str.proofs.UnitLaws.{unit_length-is, unit_begins, backslash_is_no_quote, plain_is_no_quote, quote_is_no_bracket}
+use Rattle.luf_str.specs.Requote.{requoted_unit, IsShortRequoted, IsRequoted}
 use Rattle.luf_str.proofs.LongLaws.{level_is, long_length, body_is}
 
 -- ---- parts of short strings
@@ -159,3 +161,28 @@ one_value s v w (inr x) (inr y) = one_long_text x.1 v w x.3 (subst (λ b. IsLong
 pub value_or_bad : (s v : List ℕ) (at : ℕ) → IsValue s v → FirstBad s at → ⊥
 value_or_bad s v at (inl x) bad = short_value_or_bad s v at x bad
 value_or_bad s v at (inr x) bad = long_is_not_short bad.0 s _ x.0 x.1 bad.3 bad.6 x.2
+
+-- ---- units
+
+abbrev same_bytes : List ℕ → List ℕ
+same_bytes unit = unit
+
+units_determined : (q : ℕ) → IsDetermined (IsUnit q) same_bytes
+units_determined q u w m n is is' e = same_cut u m w n e (sym (unit_length-is is) ∙ ap unit_length e ∙ unit_length-is is')
+
+no_unit_at_quote : (q : ℕ) (next : List ℕ) → is_quote q ≡ true → NoPiece (IsUnit q) same_bytes (q ∷ next)
+no_unit_at_quote q next quote u m is e = unit_begins quote is (ap (λ t. get_or t 0 0) e)
+
+one_short_requoted : (s : List ℕ) (q : ℕ) (t u : List ℕ) → IsShortRequoted s q t → IsShortRequoted s q u → t ≡ u
+one_short_requoted s q t u (p, us, quote, cut, e) (r, ws, quote', cut', f) =
+    let same : r ≡ p = sym (first_is r s _ cut'.1) ∙ first_is p s _ cut.1 in
+    let moved = subst (λ x. AllInPlace (IsUnit x) same_bytes ws (x ∷ []) × (s ≡ x ∷ (joined ws ++ x ∷ []))) same cut' in
+    let inner = (first_same p p (joined us ++ p ∷ []) (joined ws ++ p ∷ []) (sym cut.1 ∙ moved.1)).1 in
+    let units = same_pieces (IsUnit p) same_bytes (units_determined p) us ws (p ∷ []) (p ∷ []) cut.0 moved.0 (no_unit_at_quote p [] quote) (no_unit_at_quote p [] quote) inner in
+    e ∙ ap (λ xs. q ∷ (joined (map (requoted_unit q) xs) ++ q ∷ [])) units.0 ∙ sym f
+
+pub one_requoted : (s : List ℕ) (q : ℕ) (t u : List ℕ) → IsRequoted s q t → IsRequoted s q u → t ≡ u
+one_requoted s q t u (inl x) (inl y) = one_short_requoted s q t u x y
+one_requoted s q t u (inl x) (inr y) = absurd (long_is_not_short x.0 s _ y.0.0 y.0.1 x.2 x.3.1 y.0.2)
+one_requoted s q t u (inr x) (inl y) = absurd (long_is_not_short y.0 s _ x.0.0 x.0.1 y.2 y.3.1 x.0.2)
+one_requoted s q t u (inr x) (inr y) = x.1 ∙ sym y.1

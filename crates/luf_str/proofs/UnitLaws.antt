@@ -11,12 +11,13 @@ use Rattle.luf_str.specs.Escape.{IsEscape, letter_value}
 use Rattle.luf_str.specs.Escape as escape_rule
 use Rattle.luf_str.specs.Spelling.{IsUnit, joined, IsShortIn, IsShortSpelling}
 use Rattle.luf_str.specs.Spelling as unit_rule
-use Rattle.luf_str.specs.Value.{IsPart}
+use Rattle.luf_str.specs.Value.{IsPart, Part, spelling_of, AreParts}
 use Rattle.luf_str.specs.Value as part_rule
 use Rattle.luf_str.specs.Reading.{line_end_length, unit_length}
 use Rattle.luf_str.specs.Front.{IsEnd}
 use Rattle.luf_str.proofs.Leading.{prefix_len-whole, first_line_byte, line_end_length-is}
-use Rattle.luf_str.proofs.InPlace.{same_cut}
+use Rattle.std.proofs.lemmas.Grind.{flat_map-append}
+use Rattle.luf_str.proofs.InPlace.{same_cut, in_place_join}
 use Rattle.luf_str.proofs.EscapeLaws.{for_letters}
 
 pub quote_cases : (q : ℕ) → is_quote q ≡ true → (q ≡ 34) ⊎ (q ≡ 39)
@@ -67,15 +68,11 @@ unit_begins quote (unit_rule.line_end q line next h) e = backslash_is_no_quote q
 unit_begins quote (unit_rule.other q b next no_z no_line) e = backslash_is_no_quote q quote e
 
 -- nor does it stand where a string ends
-pub unit_is_no_end : {q : ℕ} {unit next : List ℕ} → is_quote q ≡ true → IsUnit q unit next → IsEnd q (unit ++ next) → ⊥
-unit_is_no_end quote (unit_rule.plain q b next h) end =
-    elim end [ inl e ↦ plain_is_no_quote q b h e | inr line ↦ plain_is_no_line q b h line ]
-unit_is_no_end quote (unit_rule.skip q spaces next all none) end =
-    elim end [ inl e ↦ backslash_is_no_quote q quote e | inr line ↦ false≢true line ]
-unit_is_no_end quote (unit_rule.line_end q line next h) end =
-    elim end [ inl e ↦ backslash_is_no_quote q quote e | inr line ↦ false≢true line ]
-unit_is_no_end quote (unit_rule.other q b next no_z no_line) end =
-    elim end [ inl e ↦ backslash_is_no_quote q quote e | inr line ↦ false≢true line ]
+unit_is_no_end : {q : ℕ} {unit next : List ℕ} → IsUnit q unit next → IsEnd (unit ++ next) → ⊥
+unit_is_no_end (unit_rule.plain q b next h) end = plain_is_no_line q b h end
+unit_is_no_end (unit_rule.skip q spaces next all none) end = false≢true end
+unit_is_no_end (unit_rule.line_end q line next h) end = false≢true end
+unit_is_no_end (unit_rule.other q b next no_z no_line) end = false≢true end
 
 abbrev pub AreUnits : ℕ → List (List ℕ) → List ℕ → Type 0
 AreUnits q units next = AllInPlace (IsUnit q) (λ unit. unit) units next
@@ -181,7 +178,31 @@ pub part_units : {q : ℕ} {part next value : List ℕ} → is_quote q ≡ true 
 part_units quote (part_rule.plain q b next h) = ((b ∷ []) ∷ [], (unit_rule.plain q b next h, tt), refl)
 part_units quote (part_rule.escape q escape next value h) = escape_units q quote (shape h)
 
--- behind a part of a short string the string goes on
-pub rest_behind_part : {q : ℕ} {part next value : List ℕ} → is_quote q ≡ true → IsPart q part next value → IsRest q (part ++ next) → IsRest q next
-rest_behind_part {q} {part} {next} quote is rest =
-    let u = part_units quote is in rest_behind q u.0 next quote u.1 (subst (λ t. IsRest q (t ++ next)) u.2 rest)
+-- the units of parts
+pub parts_units : (q : ℕ) (parts : List Part) (next : List ℕ) → is_quote q ≡ true → AreParts q parts next → (units : List (List ℕ)) × AreUnits q units next × (spelling_of parts ≡ joined units)
+parts_units q [] next quote all = ([], tt, refl)
+parts_units q (p ∷ parts) next quote all =
+    let first = part_units quote all.0 in
+    let rest = parts_units q parts next quote all.1 in (
+      first.0 ++ rest.0,
+      in_place_join (IsUnit q) (λ u. u) first.0 rest.0 next (subst (λ t. AreUnits q first.0 (t ++ next)) rest.2 first.1) rest.1,
+      ap (λ t. t ++ spelling_of parts) first.2 ∙ ap (λ t. joined first.0 ++ t) rest.2 ∙ sym (flat_map-append (λ (u : List ℕ). u) first.0 rest.0),
+    )
+
+-- where the quote comes, it alone is left
+pub only_quote : (q : ℕ) (next : List ℕ) → is_quote q ≡ true → IsRest q next → get_or next 0 0 ≡ q → next ≡ q ∷ []
+only_quote q next quote ([], all, e) at = e
+only_quote q next quote (u ∷ units, all, e) at = absurd (unit_begins quote all.0 (ap (λ t. get_or t 0 0) (sym (e ∙ append_assoc u (joined units) (q ∷ []))) ∙ at))
+
+quote_is_no_line : (q : ℕ) → is_quote q ≡ true → is_line_byte q ≡ true → ⊥
+quote_is_no_line q quote line = elim (quote_cases q quote) [ inl e ↦ false≢true (ap is_line_byte (sym e) ∙ line) | inr e ↦ false≢true (ap is_line_byte (sym e) ∙ line) ]
+
+-- what is left of a short string does not end before its quote
+pub rest_is_no_end : (q : ℕ) (next : List ℕ) → is_quote q ≡ true → IsRest q next → IsEnd next ⊎ (next ≡ 92 ∷ []) → ⊥
+rest_is_no_end q next quote ([], all, e) (inl end) = quote_is_no_line q quote (subst IsEnd e end)
+rest_is_no_end q next quote ([], all, e) (inr lone) = backslash_is_no_quote q quote (ap (λ t. get_or t 0 0) (sym lone ∙ e))
+rest_is_no_end q next quote (u ∷ units, all, e) (inl end) = unit_is_no_end all.0 (subst IsEnd (e ∙ append_assoc u (joined units) (q ∷ [])) end)
+rest_is_no_end q next quote (u ∷ units, all, e) (inr lone) =
+    let some = unit_some all.0 in
+    let rest : List ℕ = joined units ++ q ∷ [] in
+    omega (arith, ap length (sym lone ∙ e ∙ append_assoc u (joined units) (q ∷ [])), length-append u rest, length-append (joined units) (q ∷ []))

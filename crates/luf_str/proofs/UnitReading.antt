@@ -7,7 +7,7 @@ use Rattle.luf_str.specs.Spelling.{IsUnit, joined, IsShortSpelling}
 use Rattle.luf_str.specs.Requote.{requoted_unit, IsShortRequoted}
 use Rattle.luf_str.specs.Reading.{unit_length}
 use Rattle.luf_str.proofs.InPlace.{in_place_push}
-use Rattle.luf_str.proofs.UnitLaws.{AreUnits, IsRest, unit_length-is, unit_begins, unit_some, rest_some}
+use Rattle.luf_str.proofs.UnitLaws.{AreUnits, IsRest, unit_length-is, unit_some, rest_some, only_quote}
 
 -- The short string in the quotes q is cut into units up to next; in the quotes p these units are done.
 pub record IsCutTo (q p : ℕ) (spelling : List ℕ) (next done : List ℕ) : Type 0 where
@@ -67,13 +67,9 @@ cut_goes_on q p spelling at n done r no_quote is =
     let cut : IsCutTo q p spelling (drop (at + n) spelling) (done ++ requoted_unit p (take n (drop at spelling))) = subst (λ t. IsCutTo q p spelling t (done ++ requoted_unit p (take n (drop at spelling)))) (drop-drop n at spelling) step.2 in
     (step.0, step.1, omega (arith, rest_some q (drop (at + n) spelling) cut.rest, length-drop (at + n) spelling), cut)
 
-ends_alone : (q : ℕ) (next : List ℕ) (units : List (List ℕ)) → is_quote q ≡ true → AreUnits q units (q ∷ []) → next ≡ joined units ++ q ∷ [] → get_or next 0 0 ≡ q → next ≡ q ∷ []
-ends_alone q next [] quote all e at = e
-ends_alone q next (u ∷ units) quote all e at = absurd (unit_begins quote all.0 (ap (λ t. get_or t 0 0) (sym (e ∙ append_assoc u (joined units) (q ∷ []))) ∙ at))
-
 pub cut_ends : (q p : ℕ) (spelling : List ℕ) (at : ℕ) (done : List ℕ) → IsCutTo q p spelling (drop at spelling) done → get_or spelling at 0 ≡ q → IsShortRequoted spelling p (done ++ p ∷ [])
 cut_ends q p spelling at done r quote =
     let next : List ℕ = drop at spelling in
     let first : get_or next 0 0 ≡ get_or spelling at 0 = get_or-drop at spelling 0 0 ∙ ap (λ i. get_or spelling i 0) (add-zero at) in
-    let close : next ≡ q ∷ [] = ends_alone q next r.rest.0 r.quote r.rest.1 r.rest.2 (first ∙ quote) in
+    let close : next ≡ q ∷ [] = only_quote q next r.quote r.rest (first ∙ quote) in
     (q, r.units, r.quote, (subst (AreUnits q r.units) close r.are, r.text ∙ ap (λ t. q ∷ (joined r.units ++ t)) close), ap (λ t. t ++ p ∷ []) r.value)

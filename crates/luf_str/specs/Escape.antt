@@ -6,7 +6,17 @@ use Rattle.luf_str.specs.Pieces.{NoneAtFront, IsLineEnd}
 
 -- what the escapes of one letter or sign stand for: \a \b \f \n \r \t \v \\ \" \'
 abbrev pub letter_value : ℕ → Option ℕ
-letter_value c = if c == 97 then Some 7 else (if c == 98 then Some 8 else (if c == 102 then Some 12 else (if c == 110 then Some 10 else (if c == 114 then Some 13 else (if c == 116 then Some 9 else (if c == 118 then Some 11 else (if c == 92 then Some 92 else (if c == 34 then Some 34 else (if c == 39 then Some 39 else None)))))))))
+letter_value c = if c == 97 then Some 7
+    else (if c == 98 then Some 8
+    else (if c == 102 then Some 12
+    else (if c == 110 then Some 10
+    else (if c == 114 then Some 13
+    else (if c == 116 then Some 9
+    else (if c == 118 then Some 11
+    else (if c == 92 then Some 92
+    else (if c == 34 then Some 34
+    else (if c == 39 then Some 39
+    else None)))))))))
 
 -- a byte of UTF-8 behind the first: six bits of the code, those from the unit on
 abbrev pub continuation : ℕ → ℕ → ℕ
@@ -28,11 +38,15 @@ pub data IsEscape : List ℕ → List ℕ → List ℕ → Type 0 where
   -- \z and all the blanks and line ends behind it
   skip : (spaces next : List ℕ) → AllByRecursion (λ b. IsTrue (is_space b)) spaces → NoneAtFront is_space next → IsEscape (122 ∷ spaces) next []
   -- \x and two hexadecimal digits
-  hexadecimal : (high low : ℕ) (next : List ℕ) → IsTrue (is_hex_digit high) → IsTrue (is_hex_digit low) → IsEscape (120 ∷ high ∷ low ∷ []) next ((16 * hex_value high + hex_value low) ∷ [])
+  hexadecimal : (high low : ℕ) (next : List ℕ) → IsTrue (is_hex_digit high) → IsTrue (is_hex_digit low)
+      → IsEscape (120 ∷ high ∷ low ∷ []) next ((16 * hex_value high + hex_value low) ∷ [])
   -- one to three decimal digits, as many as there are
-  decimal : (digits next : List ℕ) → 1 ≤ length digits → length digits ≤ 3 → AllByRecursion (λ b. IsTrue (is_digit b)) digits → (length digits < 3 → NoneAtFront is_digit next) → decimal_number digits ≤ 255 → IsEscape digits next (decimal_number digits ∷ [])
+  decimal : (digits next : List ℕ) → 1 ≤ length digits → length digits ≤ 3 → AllByRecursion (λ b. IsTrue (is_digit b)) digits
+      → (length digits < 3 → NoneAtFront is_digit next) → decimal_number digits ≤ 255
+      → IsEscape digits next (decimal_number digits ∷ [])
   -- \u{ and hexadecimal digits and }
-  code : (digits next : List ℕ) → 1 ≤ length digits → AllByRecursion (λ b. IsTrue (is_hex_digit b)) digits → hex_number digits < 2 ^ 31 → IsEscape (117 ∷ 123 ∷ (digits ++ 125 ∷ [])) next (utf8 (hex_number digits))
+  code : (digits next : List ℕ) → 1 ≤ length digits → AllByRecursion (λ b. IsTrue (is_hex_digit b)) digits → hex_number digits < 2 ^ 31
+      → IsEscape (117 ∷ 123 ∷ (digits ++ 125 ∷ [])) next (utf8 (hex_number digits))
 
 -- no escape stands behind a backslash that this text follows
 abbrev pub NoEscape : List ℕ → Type 0

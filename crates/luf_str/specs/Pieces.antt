@@ -1,5 +1,5 @@
--- Texts cut into pieces.
-use Rattle.std.specs.Prelude.{ℕ, Bool, List, [], ◌∷◌, ◌++◌, ⊤, IsTrue, IsFalse}
+-- Texts cut into pieces, and texts that grow.
+use Rattle.std.specs.Prelude.{◌≡◌, ℕ, Bool, List, [], ◌∷◌, ◌++◌, ⊤, IsTrue, IsFalse}
 use Rattle.std.specs.List.{flat_map}
 use Rattle.luf_str.specs.Bytes.{is_line_byte, is_line_pair}
 
@@ -18,3 +18,7 @@ abbrev pub IsLineEnd : List ℕ → List ℕ → Type 0
 IsLineEnd (a ∷ []) next = IsTrue (is_line_byte a) × NoneAtFront (is_line_pair a) next
 IsLineEnd (a ∷ b ∷ []) next = IsTrue (is_line_pair a b)
 IsLineEnd _ next = ⊥
+
+-- new is old with bytes of this kind at its end
+abbrev pub Appends : (List ℕ → Type 0) → List ℕ → List ℕ → Type 0
+Appends kind old new = (bytes : List ℕ) × kind bytes × (new ≡ old ++ bytes)

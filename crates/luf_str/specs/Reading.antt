@@ -1,16 +1,10 @@
 -- What the front of a text is, as functions. Only private functions cite these; the laws in proofs/ tie them to the relations.
-use Rattle.std.specs.Prelude.{ℕ, ◌+◌, ◌-◌, ◌*◌, ◌^◌, ◌&&◌, ◌==◌, nat_lt, nat_le, List, [], ◌∷◌, take, drop, slice_index, Option, Some, None, option_map, if◌then◌else◌}
+use Rattle.std.specs.Prelude.{ℕ, ◌+◌, ◌-◌, ◌*◌, ◌^◌, ◌&&◌, ◌==◌, nat_lt, nat_le, List, take, drop, slice_index, Option, Some, None, option_map, if◌then◌else◌}
 use Rattle.std.specs.List.{prefix_len}
 use Rattle.luf_str.specs.declared.escapes.Meaning.{Meaning}
 use Rattle.luf_str.specs.declared.escapes.Meaning.TheVariants.{Byte, Code, Nothing}
 use Rattle.luf_str.specs.Bytes.{is_line_byte, is_line_pair, is_space, is_digit, is_hex_digit, hex_value, hex_number}
-use Rattle.luf_str.specs.Escape.{letter_value, utf8}
-
--- the bytes that a meaning is
-abbrev pub bytes_of : Meaning → List ℕ
-bytes_of (Byte b) = b ∷ []
-bytes_of (Code n) = utf8 n
-bytes_of Nothing = []
+use Rattle.luf_str.specs.Escape.{letter_value}
 
 -- how many bytes the line end at the front has
 abbrev pub line_end_length : List ℕ → ℕ

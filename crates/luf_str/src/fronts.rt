@@ -14,11 +14,16 @@ pub enum Front {
     BadEscape,
     /// A backslash, and then the text's end.
     LoneBackslash,
-    /// The text's end, the quote or a line end.
+    /// The quote.
+    Quote,
+    /// The text's end or a line end.
     End,
 }
 
-/// Reads what the text begins with. The text may go on behind the string, and the string may be cut by the text's end.
+/// Reads what the text begins with, as the inside of a short string in these quotes.
+///
+/// The text may go on behind the string, and it may end within it: an escape that the text's end cuts is bad, one that
+/// could go on there, as `\1` or `\z`, is whole.
 #[tactic(auto, using(crate::proofs::FrontLaws::front_laws))]
 pub fn front_of(text: &[u8], quote: u8) -> Front
     ensures { IsFront quote text.now result }
@@ -28,7 +33,10 @@ pub fn front_of(text: &[u8], quote: u8) -> Front
     }
     let first = text[0];
     if first != b'\\' {
-        if first == quote || is_line_byte(first) {
+        if first == quote {
+            return Front::Quote;
+        }
+        if is_line_byte(first) {
             return Front::End;
         }
         return Front::Part {

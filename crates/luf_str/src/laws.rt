@@ -1,6 +1,7 @@
 //! Laws of the definitions, each on an empty function.
 
 ghost use Rattle.std.specs.Prelude.{◌≡◌, ℕ, List, [], ◌++◌};
+ghost use Rattle.luf_str.specs.Requote.{IsRequoted};
 ghost use Rattle.luf_str.specs.Spelling.{IsSpelling};
 ghost use Rattle.luf_str.specs.Value.{IsValue, FirstBad};
 
@@ -27,4 +28,9 @@ pub fn value_spelled()
 /// No spelling is a proper front of another.
 pub fn spellings_apart()
     ensures { (spelling more : List ℕ) → IsSpelling spelling → IsSpelling (spelling ++ more) → more ≡ [] }
+{}
+
+/// A string has at most one spelling in other quotes.
+pub fn one_requoted()
+    ensures { (spelling requoted other : List ℕ) (q : ℕ) → IsRequoted spelling q requoted → IsRequoted spelling q other → requoted ≡ other }
 {}

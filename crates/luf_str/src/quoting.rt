@@ -1,10 +1,9 @@
 //! The quotes in a string, and its spelling in other quotes.
 
-ghost use Rattle.std.specs.Prelude.{◌≡◌, ℕ, List, ◌++◌, ◌^◌, ◌<◌, ◌≤◌, ◌==◌, length, take, drop, count_by, vec_len, OnOk, OnErr, IsTrue};
-ghost use Rattle.luf_str.specs.Bytes.{is_quote};
+ghost use Rattle.std.specs.Prelude.{◌≡◌, ◌++◌, ◌^◌, ◌<◌, ◌==◌, length, take, count_by, vec_len, OnOk, OnErr};
 ghost use Rattle.luf_str.specs.Reading.{unit_length};
-ghost use Rattle.luf_str.specs.Spelling.{IsShortIn, IsShortSpelling, IsLongSpelling, IsSpelling};
-ghost use Rattle.luf_str.specs.Value.{IsValue};
+ghost use Rattle.luf_str.specs.Pieces.{Appends};
+ghost use Rattle.luf_str.specs.Spelling.{IsShortSpelling, IsLongSpelling, IsSpelling};
 ghost use Rattle.luf_str.specs.Requote.{quote_byte, other_quote, inside, requoted_unit, IsShortRequoted, IsRequoted, IsSameString};
 
 use crate::bytes::{byte_at, head, is_line_byte, leading_spaces, line_end_length, tail};
@@ -51,7 +50,8 @@ impl Quote {
 pub fn quotes(spelling: &[u8]) -> Counts
     requires spelling { IsSpelling spelling.now }
     requires size { length spelling.now < 2 ^ 32 }
-    ensures short { IsShortSpelling spelling.now → (result.single ≡ count_by (λ b. b == 39) (inside spelling.now)) × (result.double ≡ count_by (λ b. b == 34) (inside spelling.now)) }
+    ensures single { IsShortSpelling spelling.now → result.single ≡ count_by (λ b. b == 39) (inside spelling.now) }
+    ensures double { IsShortSpelling spelling.now → result.double ≡ count_by (λ b. b == 34) (inside spelling.now) }
     ensures long { IsLongSpelling spelling.now → (result.single ≡ 0) × (result.double ≡ 0) }
 {
     if spelling[0] == b'[' {
@@ -115,7 +115,7 @@ fn push_unit(unit: &[u8], quotes: Quote, into: &mut Vec<u8>) -> Result<(), Memor
 /// Appends a short string in the quotes, or a front of it before an error.
 fn push_short(spelling: &[u8], quotes: Quote, into: &mut Vec<u8>) -> Result<(), Memory>
     requires { IsShortSpelling spelling.now }
-    ensures ok { OnOk result ((requoted : List ℕ) × IsShortRequoted spelling.now (quote_byte quotes) requoted × (into.new.items ≡ into.old.items ++ requoted)) }
+    ensures ok { OnOk result (Appends (IsShortRequoted spelling.now (quote_byte quotes)) into.old.items into.new.items) }
     ensures err { OnErr result (take (vec_len into.old) into.new.items ≡ into.old.items) }
 {
     let from = spelling[0];
@@ -131,9 +131,10 @@ fn push_short(spelling: &[u8], quotes: Quote, into: &mut Vec<u8>) -> Result<(), 
     Ok(())
 }
 
+/// Appends a string in the quotes, or a front of it before an error.
 fn push_requoted(spelling: &[u8], quotes: Quote, into: &mut Vec<u8>) -> Result<(), Memory>
     requires { IsSpelling spelling.now }
-    ensures ok { OnOk result ((requoted : List ℕ) × IsRequoted spelling.now (quote_byte quotes) requoted × (into.new.items ≡ into.old.items ++ requoted)) }
+    ensures ok { OnOk result (Appends (IsRequoted spelling.now (quote_byte quotes)) into.old.items into.new.items) }
     ensures err { OnErr result (take (vec_len into.old) into.new.items ≡ into.old.items) }
 {
     if spelling[0] == b'[' {
@@ -149,9 +150,9 @@ fn push_requoted(spelling: &[u8], quotes: Quote, into: &mut Vec<u8>) -> Result<(
 pub fn requote(_alloc: Global, spelling: &[u8], q: Quote, into: &mut Vec<u8>) -> Result<(), Memory>
     requires spelling { IsSpelling spelling.now }
     requires size { length spelling.now < 2 ^ 32 }
-    ensures ok { OnOk result ((requoted : List ℕ) × IsRequoted spelling.now (quote_byte q) requoted × (into.new.items ≡ into.old.items ++ requoted)) }
+    ensures ok { OnOk result (Appends (IsRequoted spelling.now (quote_byte q)) into.old.items into.new.items) }
     // The spelling has the same value, and that of a short string is in these quotes.
-    ensures same { OnOk result ((requoted : List ℕ) × IsSameString spelling.now (quote_byte q) requoted × (into.new.items ≡ into.old.items ++ requoted)) }
+    ensures same { OnOk result (Appends (IsSameString spelling.now (quote_byte q)) into.old.items into.new.items) }
     ensures err { OnErr result (into.new.items ≡ into.old.items) }
 {
     let before = into.len();

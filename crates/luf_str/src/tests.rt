@@ -1,6 +1,6 @@
 //! Tables from the Lua 5.4 manual, 3.1. Each spelling is tested to be one before a call that requires it.
 
-ghost use Rattle.std.specs.Prelude.{◌≡◌, ℕ, List, ◌++◌, ◌<◌, ◌≤◌, ◌↔◌, length, IsTrue};
+ghost use Rattle.std.specs.Prelude.{◌≡◌, ℕ, List, ◌++◌, ◌↔◌, length, IsTrue};
 ghost use Rattle.luf_str.specs.Spelling.{closing, IsShortSpelling, IsLongSpelling, IsSpelling};
 
 use super::*;
@@ -173,16 +173,46 @@ fn bad_escapes(rt: HostRuntime) -> Result<(), Fail> {
 fn fronts(rt: HostRuntime) {
     let rows: [(&[u8], Front); 11] = [
         (b"", Front::End),
-        (b"'a", Front::End),
+        (b"'a", Front::Quote),
         (b"\r", Front::End),
-        (b"\"a", Front::Part { length: 1, meaning: Meaning::Byte(b'"') }),
+        (
+            b"\"a",
+            Front::Part {
+                length: 1,
+                meaning: Meaning::Byte(b'"'),
+            },
+        ),
         (b"\\", Front::LoneBackslash),
         (b"\\x4", Front::BadEscape),
         (b"\\u{1", Front::BadEscape),
-        (b"\\1", Front::Part { length: 2, meaning: Meaning::Byte(1) }),
-        (b"\\z", Front::Part { length: 2, meaning: Meaning::Nothing }),
-        (b"\\'", Front::Part { length: 2, meaning: Meaning::Byte(b'\'') }),
-        (b"\\u{20AC}", Front::Part { length: 8, meaning: Meaning::Code(0x20AC) }),
+        (
+            b"\\1",
+            Front::Part {
+                length: 2,
+                meaning: Meaning::Byte(1),
+            },
+        ),
+        (
+            b"\\z",
+            Front::Part {
+                length: 2,
+                meaning: Meaning::Nothing,
+            },
+        ),
+        (
+            b"\\'",
+            Front::Part {
+                length: 2,
+                meaning: Meaning::Byte(b'\''),
+            },
+        ),
+        (
+            b"\\u{20AC}",
+            Front::Part {
+                length: 8,
+                meaning: Meaning::Code(0x20AC),
+            },
+        ),
     ];
     for (text, front) in rows {
         assert_eq!(rt; front_of(text, b'\''), front, "at {text:?}");
@@ -190,14 +220,45 @@ fn fronts(rt: HostRuntime) {
 }
 
 #[test]
+fn short_ends(rt: HostRuntime) {
+    let rows: [(&[u8], ShortEnd); 9] = [
+        (b"''", ShortEnd::Closed { length: 2 }),
+        (b"'a\"\\'' 'b'", ShortEnd::Closed { length: 6 }),
+        (b"'\\q", ShortEnd::Bad { at: 1 }),
+        (b"'\\x4", ShortEnd::Bad { at: 1 }),
+        (b"'a\\u{1", ShortEnd::Bad { at: 2 }),
+        (b"'a\n'", ShortEnd::Open),
+        (b"'\\1", ShortEnd::Open),
+        (b"'\\z", ShortEnd::Open),
+        (b"'a\\", ShortEnd::Open),
+    ];
+    for (text, end) in rows {
+        assert!(rt; text.len() > 0 && text[0] == b'\'');
+        assert_eq!(rt; short_end(text), end, "at {text:?}");
+    }
+}
+
+#[test]
 fn quoting(rt: HostRuntime) -> Result<(), Fail> {
     let rows: [(&[u8], u32, u32, &[u8], &[u8]); 9] = [
         (b"''", 0, 0, b"''", b"\"\""),
-        (b"'it\\'s \"q\"'", 1, 2, b"'it\\'s \"q\"'", b"\"it's \\\"q\\\"\""),
+        (
+            b"'it\\'s \"q\"'",
+            1,
+            2,
+            b"'it\\'s \"q\"'",
+            b"\"it's \\\"q\\\"\"",
+        ),
         (b"'\\\\\"'", 0, 1, b"'\\\\\"'", b"\"\\\\\\\"\""),
         (b"\"\\'\"", 1, 0, b"'\\''", b"\"'\""),
         (b"'\\\"'", 0, 1, b"'\"'", b"\"\\\"\""),
-        (b"'\\x27\\39\\z \n\"'", 0, 1, b"'\\x27\\39\\z \n\"'", b"\"\\x27\\39\\z \n\\\"\""),
+        (
+            b"'\\x27\\39\\z \n\"'",
+            0,
+            1,
+            b"'\\x27\\39\\z \n\"'",
+            b"\"\\x27\\39\\z \n\\\"\"",
+        ),
         (b"'\\q\\\n\"'", 0, 1, b"'\\q\\\n\"'", b"\"\\q\\\n\\\"\""),
         (b"[['\"]]", 0, 0, b"[['\"]]", b"[['\"]]"),
         (b"[=[\\']=]", 0, 0, b"[=[\\']=]", b"[=[\\']=]"),
@@ -205,12 +266,22 @@ fn quoting(rt: HostRuntime) -> Result<(), Fail> {
     for (spelling, single, double, in_single, in_double) in rows {
         assert!(rt; is_spelling(spelling), "{spelling:?} is no spelling");
         assert!(rt; spelling.len() < 1000);
-        assert_eq!(rt; quotes(spelling), Counts { single, double }, "at {spelling:?}");
+        assert_eq!(rt;
+            quotes(spelling),
+            Counts { single, double },
+            "at {spelling:?}"
+        );
         let mut into = Vec::new(rt.alloc());
-        assert_eq!(rt; requote(rt.alloc(), spelling, Quote::Single, &mut into), Ok(()));
+        assert_eq!(rt;
+            requote(rt.alloc(), spelling, Quote::Single, &mut into),
+            Ok(())
+        );
         assert_eq!(rt; into.as_slice(), in_single, "at {spelling:?}");
         let mut into = Vec::new(rt.alloc());
-        assert_eq!(rt; requote(rt.alloc(), spelling, Quote::Double, &mut into), Ok(()));
+        assert_eq!(rt;
+            requote(rt.alloc(), spelling, Quote::Double, &mut into),
+            Ok(())
+        );
         assert_eq!(rt; into.as_slice(), in_double, "at {spelling:?}");
     }
     Ok(())

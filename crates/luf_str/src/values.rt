@@ -1,10 +1,11 @@
 //! The value of a string, and the first bad escape.
 
-ghost use Rattle.std.specs.Prelude.{◌≡◌, ◌⊎◌, ℕ, List, ◌++◌, ◌^◌, ◌<◌, ◌≤◌, length, take, slice_index, vec_len, OnOk, OnErr, IfSome, IfNone, IsErrOf};
+ghost use Rattle.std.specs.Prelude.{◌≡◌, ℕ, List, ◌++◌, ◌^◌, ◌<◌, length, take, vec_len, OnOk, OnErr, IsErrOf};
 ghost use Rattle.luf_str.specs.Escape.{utf8, continuation};
-ghost use Rattle.luf_str.specs.Reading.{bytes_of};
+ghost use Rattle.luf_str.specs.Meaning.{bytes_of};
+ghost use Rattle.luf_str.specs.Pieces.{Appends};
 ghost use Rattle.luf_str.specs.Spelling.{IsShortSpelling, IsLongSpelling, IsLongOf, IsSpelling};
-ghost use Rattle.luf_str.specs.Value.{IsShortValue, IsLongText, IsLongValue, IsValue, FirstBad};
+ghost use Rattle.luf_str.specs.Value.{IsShortValue, IsLongText, IsValue, FirstBad};
 
 use crate::bytes::{head, leading_equals, line_end_length, tail};
 use crate::escapes::Meaning;
@@ -88,29 +89,11 @@ fn push_meaning(into: &mut Vec<u8>, meaning: Meaning) -> Result<(), Memory>
     Ok(())
 }
 
-/// The place of the first backslash of a short string that begins no escape, counted from 0. `None` where all escapes are good.
-pub fn first_bad(spelling: &[u8]) -> Option<u32>
-    requires short { IsShortSpelling spelling.now }
-    requires size { length spelling.now < 2 ^ 32 }
-    ensures none { IfNone result ((value : List ℕ) × IsShortValue spelling.now value) }
-    ensures bad { IfSome result (FirstBad spelling.now) }
-{
-    let quote = spelling[0];
-    let mut at = 1;
-    'parts: loop {
-        match front_of(tail(spelling, at), quote) {
-            Front::Part { length, .. } => at += length,
-            Front::End => return None,
-            Front::BadEscape | Front::LoneBackslash => return Some(at as u32),
-        }
-    }
-}
-
 /// Appends the value of a short string, or a front of it before an error.
 fn push_short(spelling: &[u8], into: &mut Vec<u8>) -> Result<(), StrErr>
     requires short { IsShortSpelling spelling.now }
     requires size { length spelling.now < 2 ^ 32 }
-    ensures ok { OnOk result ((value : List ℕ) × IsShortValue spelling.now value × (into.new.items ≡ into.old.items ++ value)) }
+    ensures ok { OnOk result (Appends (IsShortValue spelling.now) into.old.items into.new.items) }
     ensures bad { (at : ℕ) → IsErrOf result (StrErr.Bad at) → FirstBad spelling.now at }
     ensures err { OnErr result (take (vec_len into.old) into.new.items ≡ into.old.items) }
 {
@@ -122,8 +105,9 @@ fn push_short(spelling: &[u8], into: &mut Vec<u8>) -> Result<(), StrErr>
                 push_meaning(into, meaning)?;
                 at += length;
             }
-            Front::End => return Ok(()),
-            Front::BadEscape | Front::LoneBackslash => return Err(StrErr::Bad { at: at as u32 }),
+            Front::Quote => return Ok(()),
+            Front::BadEscape => return Err(StrErr::Bad { at: at as u32 }),
+            Front::LoneBackslash | Front::End => unreachable!(),
         }
     }
 }
@@ -140,7 +124,7 @@ fn long_body(spelling: &[u8]) -> &[u8]
 
 /// Appends the value of a long string's body, or a front of it before an error.
 fn push_lines(body: &[u8], into: &mut Vec<u8>) -> Result<(), Memory>
-    ensures ok { OnOk result ((value : List ℕ) × IsLongText body.now value × (into.new.items ≡ into.old.items ++ value)) }
+    ensures ok { OnOk result (Appends (IsLongText body.now) into.old.items into.new.items) }
     ensures err { OnErr result (take (vec_len into.old) into.new.items ≡ into.old.items) }
 {
     let mut at = line_end_length(body);
@@ -161,7 +145,7 @@ fn push_lines(body: &[u8], into: &mut Vec<u8>) -> Result<(), Memory>
 fn push_value(spelling: &[u8], into: &mut Vec<u8>) -> Result<(), StrErr>
     requires spelling { IsSpelling spelling.now }
     requires size { length spelling.now < 2 ^ 32 }
-    ensures ok { OnOk result ((value : List ℕ) × IsValue spelling.now value × (into.new.items ≡ into.old.items ++ value)) }
+    ensures ok { OnOk result (Appends (IsValue spelling.now) into.old.items into.new.items) }
     ensures bad { (at : ℕ) → IsErrOf result (StrErr.Bad at) → FirstBad spelling.now at }
     ensures err { OnErr result (take (vec_len into.old) into.new.items ≡ into.old.items) }
 {
@@ -179,7 +163,7 @@ fn push_value(spelling: &[u8], into: &mut Vec<u8>) -> Result<(), StrErr>
 pub fn value_of(_alloc: Global, spelling: &[u8], into: &mut Vec<u8>) -> Result<(), StrErr>
     requires spelling { IsSpelling spelling.now }
     requires size { length spelling.now < 2 ^ 32 }
-    ensures ok { OnOk result ((value : List ℕ) × IsValue spelling.now value × (into.new.items ≡ into.old.items ++ value)) }
+    ensures ok { OnOk result (Appends (IsValue spelling.now) into.old.items into.new.items) }
     ensures bad { (at : ℕ) → IsErrOf result (StrErr.Bad at) → FirstBad spelling.now at }
     ensures err { OnErr result (into.new.items ≡ into.old.items) }
 {

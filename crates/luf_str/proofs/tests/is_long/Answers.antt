@@ -1,7 +1,7 @@
 use Rattle.luf_str.proofs.Spelled.{bracket_front, cons_back, long_found}
 use Rattle.luf_str.proofs.tests.is_long.Goals as goal
-use Rattle.luf_str.specs.Spelling.{opening, closing}
-use Rattle.std.proofs.Common.{List, ap, arith, drop, get_or, length, refl, replicate, sym, true, ℕ, ◌++◌, ◌+◌, ◌<◌, ◌∙◌, ◌∷◌, ◌≡◌, [], inl, inr}
+use Rattle.luf_str.specs.Spelling.{opening}
+use Rattle.std.proofs.Common.{List, ap, arith, get_or, length, replicate, sym, ℕ, ◌++◌, ◌<◌, ◌∙◌, ◌∷◌, ◌≡◌, [], inl, inr}
 use Rattle.std.proofs.lemmas.Bool.{cases_lt, eqb-true}
 use Rattle.std.proofs.lemmas.List.{get_or_past}
 

@@ -10,7 +10,7 @@ use Rattle.std.proofs.lemmas.List.{append-nil, take-append-drop, drop-drop, get_
 use Rattle.luf_str.proofs.tests.is_short.Goals as goal
 
 more : (q : ℕ) (text : List ℕ) (at n : ℕ) (units : List (List ℕ)) → AreUnits q units (drop at text) → text ≡ q ∷ (joined units ++ drop at text) → IsUnit q (take n (drop at text)) (drop n (drop at text))
-  → (all : List (List ℕ)) × AreUnits q all (drop (at + n) text) × (text ≡ q ∷ (joined all ++ drop (at + n) text))
+    → (all : List (List ℕ)) × AreUnits q all (drop (at + n) text) × (text ≡ q ∷ (joined all ++ drop (at + n) text))
 more q text at n units are e is =
     let unit : List ℕ = take n (drop at text) in
     let next : List ℕ = drop n (drop at text) in
