@@ -20,7 +20,7 @@ mod word;
 
 pub use fault::{LexErr, LexWhat};
 pub use cutting::cut;
-pub use laws::{cut_or_fault, one_cut, one_fault};
+pub use laws::{cut_or_fault, lexical_fault, one_cut, one_fault};
 pub use note::Note;
 pub use pieces::Cut;
 pub use luf_text::Span;
