@@ -24,7 +24,7 @@ use Rattle.luf_lex.specs.declared.token.Tok.TheVariants.{Number, Short, Long}
 use Rattle.luf_lex.specs.declared.token.Kind.{Kind}
 use Rattle.luf_lex.specs.declared.token.Kind.TheVariants.{Token}
 use Rattle.luf_lex.proofs.LoneKind.{quoted_kind, bracketed_kind, none_alone}
-use Rattle.luf_lex.proofs.StringLemmas.{parts_again}
+use Rattle.luf_str.proofs.Follows.{parts_again}
 
 pub one_length : (text : List ℕ) (k j : Kind) (m n : ℕ) → IsFirst text k m → IsFirst text j n → m ≡ n
 one_length text k j m n a b = by_order (cases_order m n)

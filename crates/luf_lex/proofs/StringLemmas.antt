@@ -13,7 +13,7 @@ use Rattle.luf_str.specs.Value.{IsPart, Part, spelling_of, AreParts}
 use Rattle.luf_str.specs.Value as part_rule
 use Rattle.luf_str.specs.Front.{IsEnd}
 use Rattle.luf_str.proofs.InPlace.{in_place_push}
-use Rattle.luf_str.proofs.Requoting.{is_quote_like, HasSameFront, IsApart, none_again, spaces_apart, line_end_again}
+use Rattle.luf_str.proofs.Follows.{parts_again}
 use Rattle.luf_str.proofs.Apart.{valued_is_spelled}
 use Rattle.luf_lex.specs.Spelling.{IsShortString}
 use Rattle.luf_lex.specs.First.{Quoted, Bracketed, group_of, IsFirst, IsFault, IsOpenLong, IsOpenEnd}
@@ -32,34 +32,6 @@ long_some text (suc n) long = omega arith
 pub first_long : (text : List ℕ) (n : ℕ) → group_of text ≡ Bracketed → n ≤ length text → IsLongSpelling (take n text) → IsFirst text (Token Long) n
 first_long text n e within long =
     first_alone text Bracketed (Token Long) n e refl bracketed_kind (λ f. absurd cc) (λ f. absurd cc) (long_some text n long) within long (λ m more fits other. fronts_apart text n m more fits (inr long) (inr other))
-
--- ---- a part stays one where the same byte follows
-
-digit_is_apart : (b : ℕ) → is_quote_like b ≡ true → is_digit b ≡ false
-digit_is_apart b h = grind (arith, nat_tests)
-
-digits_apart : IsApart is_digit
-digits_apart = (refl, digit_is_apart)
-
-escape_again : {e m v : List ℕ} (n : List ℕ) → HasSameFront m n → IsEscape e m v → IsEscape e n v
-escape_again n same (escape_rule.letter c byte m h) = escape_rule.letter c byte n h
-escape_again n same (escape_rule.line_end line m h) = escape_rule.line_end line n (line_end_again line m n same h)
-escape_again n same (escape_rule.skip spaces m all none) = escape_rule.skip spaces n all (none_again is_space m n spaces_apart same none)
-escape_again n same (escape_rule.hexadecimal high low m h l) = escape_rule.hexadecimal high low n h l
-escape_again n same (escape_rule.decimal digits m some most all none small) = escape_rule.decimal digits n some most all (λ few. none_again is_digit m n digits_apart same (none few)) small
-escape_again n same (escape_rule.code digits m some all small) = escape_rule.code digits n some all small
-
-part_again : {q : ℕ} {p m v : List ℕ} (n : List ℕ) → HasSameFront m n → IsPart q p m v → IsPart q p n v
-part_again n same (part_rule.plain q b m h) = part_rule.plain q b n h
-part_again n same (part_rule.escape q e m v h) = part_rule.escape q e n v (escape_again n same h)
-
-same_front : (front m n : List ℕ) → get_or m 0 0 ≡ get_or n 0 0 → get_or (front ++ m) 0 0 ≡ get_or (front ++ n) 0 0
-same_front [] m n e = e
-same_front (b ∷ front) m n e = refl
-
-pub parts_again : (q : ℕ) (parts : List Part) (m n : List ℕ) → get_or m 0 0 ≡ get_or n 0 0 → AreParts q parts m → AreParts q parts n
-parts_again q [] m n e all = tt
-parts_again q (p ∷ parts) m n e all = (part_again (spelling_of parts ++ n) (inl (same_front (spelling_of parts) m n e)) all.0, parts_again q parts m n e all.1)
 
 -- ---- reading a short string
 
@@ -126,9 +98,10 @@ short_spelled q text behind at below r e =
 short_is_spelled : (text : List ℕ) → IsShortString text → IsSpelling text
 short_is_spelled text s = valued_is_spelled text s.0 (inl s.1)
 
-pub first_short : (text : List ℕ) (q at : ℕ) → group_of text ≡ Quoted → at < length text → IsReadTo q text at → get_or text at 0 ≡ q → IsFirst text (Token Short) (at + 1)
-first_short text q at e below r closes =
-    let short = short_spelled q text (drop (at + 1) text) at below r (drop_more text at 0 below ∙ ap (λ b. b ∷ drop (at + 1) text) closes) in
+pub first_short : (text : List ℕ) (q at : ℕ) (next : List ℕ) → group_of text ≡ Quoted → IsReadTo q text at → drop at text ≡ q ∷ next → IsFirst text (Token Short) (at + 1)
+first_short text q at next e r closes =
+    let below : at < length text = omega (arith, length-drop at text, ap length closes) in
+    let short = short_spelled q text next at below r closes in
     first_alone text Quoted (Token Short) (at + 1) e refl quoted_kind (λ f. absurd cc) (λ f. absurd cc) (omega arith) (omega arith) short
     (λ m more fits other. fronts_apart text (at + 1) m more fits (short_is_spelled _ short) (short_is_spelled _ other))
 
@@ -141,12 +114,9 @@ escape_fault text q at next r e some none =
 pub open_fault : (text : List ℕ) (q at : ℕ) → IsReadTo q text at → IsOpenEnd (drop at text) → IsFault text OpenString
 open_fault text q at r end = subst (λ t. IsFault t OpenString) (sym r.cut) (fault.open_string q r.parts (drop at text) r.quote r.are end)
 
-is_open_end : (q : ℕ) (rest : List ℕ) → IsEnd q rest → (0 < length rest → get_or rest 0 0 ≢ q) → IsOpenEnd rest
-is_open_end q [] end other = inl refl
-is_open_end q (b ∷ rest) (inl e) other = absurd (other (omega arith) e)
-is_open_end q (b ∷ rest) (inr line) other = inr (inr line)
+is_open_end : (rest : List ℕ) → IsEnd rest → IsOpenEnd rest
+is_open_end [] end = inl refl
+is_open_end (b ∷ rest) line = inr (inr line)
 
-pub open_end : (text : List ℕ) (q at : ℕ) → IsReadTo q text at → IsEnd q (drop at text) → (at < length text → get_or text at 0 ≢ q) → IsFault text OpenString
-open_end text q at r end other =
-    let same : get_or (drop at text) 0 0 ≡ get_or text at 0 = get_or-drop at text 0 0 ∙ ap (λ i. get_or text i 0) (omega arith) in
-    open_fault text q at r (is_open_end q (drop at text) end (λ some e. other (omega (arith, length-drop at text)) (sym same ∙ e)))
+pub open_end : (text : List ℕ) (q at : ℕ) → IsReadTo q text at → IsEnd (drop at text) → IsFault text OpenString
+open_end text q at r end = open_fault text q at r (is_open_end (drop at text) end)

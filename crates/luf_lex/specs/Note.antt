@@ -23,11 +23,12 @@ is_line_end _ = false
 abbrev pub is_content : Kind → Bool
 is_content kind = is_token kind || is_comment kind
 
--- whether no token and no comment stands after the last line end of these pieces
+-- Whether no token and no comment stands after the last line end of these pieces, or from their start where there is
+-- none. A comment of several lines counts on its last line. A mark and a `#` line count as nothing.
 abbrev pub at_line_start : List Piece → Bool
 at_line_start before = list_all (λ p. not (is_content p.kind)) (take_while (λ p. not (is_line_end p.kind)) (reverse before))
 
--- whether only blanks stand before the first line end of these pieces
+-- whether only blanks stand before the first line end of these pieces, or to their end where there is none
 abbrev pub at_line_end : List Piece → Bool
 at_line_end after = list_all (λ p. is_space p.kind) (take_while (λ p. not (is_line_end p.kind)) after)
 
@@ -35,7 +36,8 @@ at_line_end after = list_all (λ p. is_space p.kind) (take_while (λ p. not (is_
 abbrev pub last_gap : List Piece → List Piece
 last_gap before = drop (length before - suffix_len (λ p. not (is_content p.kind)) before) before
 
--- whether an empty line ends these pieces: two line ends or more stand there, of which the first may end another line
+-- Whether an empty line ends these pieces: two line ends or more stand in their last gap. The first ends the line of
+-- what stands before the gap, or a `#` line, or is the first of the source: one alone leaves no empty line.
 abbrev pub has_empty_line : List Piece → Bool
 has_empty_line before = nat_le 2 (count_by (λ p. is_line_end p.kind) (last_gap before))
 
@@ -43,7 +45,7 @@ has_empty_line before = nat_le 2 (count_by (λ p. is_line_end p.kind) (last_gap 
 abbrev pub note_of : List Piece → Piece → List Piece → Note
 note_of before p after = record { span = p.span; own_line = at_line_start before; line_after = at_line_end after; blank_before = has_empty_line before }
 
--- the comments that n tokens stand before; the first pieces are those before all others
+-- the comments among the later pieces that n tokens stand before, where the earlier pieces stand before them all
 abbrev pub lead_from : ℕ → List Piece → List Piece → List Note
 lead_from n before [] = []
 lead_from n before (p ∷ after) = (if is_comment p.kind && length (tokens_of before) == n then note_of before p after ∷ [] else []) ++ lead_from n (before ++ p ∷ []) after

@@ -1,5 +1,5 @@
 // Strings, in long brackets and in quotes (Lua 5.4 manual, 3.1).
-ghost use Rattle.std.specs.Prelude.{◌≡◌, ◌↔◌, ◌<◌, ◌≤◌, ℕ, length, slice_index, IsTrue, MatchResult};
+ghost use Rattle.std.specs.Prelude.{◌≡◌, ◌≤◌, length, MatchResult};
 ghost use Rattle.std.specs.List.{prefix_len};
 ghost use Rattle.luf_str.specs.Bytes as bytes;
 ghost use Rattle.luf_lex.specs.First.{Group, group_of, IsFirst, IsFault};
@@ -39,13 +39,6 @@ fn plain_bytes(text: &[u8], quote: u8) -> usize
     text.len()
 }
 
-/// Whether the byte at a place of the text, if there is one, is this one.
-fn is_at(text: &[u8], at: usize, b: u8) -> bool
-    ensures { IsTrue result ↔ ((at < length text.now) × (slice_index text.now at ≡ b)) }
-{
-    at < text.len() && text[at] == b
-}
-
 /// The length of the string in quotes that a text begins with, or why there is none.
 pub(crate) fn short_string(text: &[u8]) -> Result<usize, LexWhat>
     requires { group_of text.now ≡ Group.Quoted }
@@ -58,8 +51,8 @@ pub(crate) fn short_string(text: &[u8]) -> Result<usize, LexWhat>
         match front_of(&text[at..], quote) {
             Front::Part { length, .. } => at += length,
             Front::BadEscape => return Err(LexWhat::BadEscape),
+            Front::Quote => return Ok(at + 1),
             Front::LoneBackslash => return Err(LexWhat::OpenString),
-            Front::End if is_at(text, at, quote) => return Ok(at + 1),
             Front::End => return Err(LexWhat::OpenString),
         }
     }

@@ -3,7 +3,6 @@ use Rattle.std.proofs.lemmas.List.{take_rest}
 use Rattle.luf_str.specs.declared.fronts.Front.TheVariants as front
 use Rattle.luf_str.specs.Front.{IsFront, IsEnd}
 use Rattle.luf_lex.proofs.StringLemmas.{plain_run, goes_on, first_short, escape_fault, open_fault, open_end}
-use Rattle.std.proofs.lemmas.Bool.{false≢true}
 use Rattle.luf_lex.proofs.string.short_string.Goals as goal
 
 pub parts-preserved : goal.parts-preserved
@@ -29,16 +28,16 @@ returns-in-LoneBackslash c =
     let at : ℕ = c.parts.at + c.plain_bytes-at.result in
     open_fault text _ at here.1 (inr (inl (sym (take_rest text at) ∙ c.in-LoneBackslash.ensures)))
 
+pub returns-in-Quote : goal.returns-in-Quote
+returns-in-Quote c =
+    let text : List ℕ = c.args.text.now in
+    let here = plain_run (get_or text 0 0) text _ c.parts.at c.plain_bytes-at.result c.parts.invariant.0 c.parts.invariant.1 refl c.plain_bytes-at.ensures.count in
+    let at : ℕ = c.parts.at + c.plain_bytes-at.result in
+    first_short text _ at c.in-Quote.ensures.0 c.requires here.1 (sym (take_rest text at) ∙ c.in-Quote.ensures.1)
+
 pub returns-in-End : goal.returns-in-End
 returns-in-End c =
     let text : List ℕ = c.args.text.now in
     let here = plain_run (get_or text 0 0) text _ c.parts.at c.plain_bytes-at.result c.parts.invariant.0 c.parts.invariant.1 refl c.plain_bytes-at.ensures.count in
-    let quote = c.is_at.ensures.0 c.if-is_at.true in
-    first_short text _ (c.parts.at + c.plain_bytes-at.result) c.requires quote.0 here.1 quote.1
-
-pub returns-in-End-2 : goal.returns-in-End-2
-returns-in-End-2 c =
-    let text : List ℕ = c.args.text.now in
-    let here = plain_run (get_or text 0 0) text _ c.parts.at c.plain_bytes-at.result c.parts.invariant.0 c.parts.invariant.1 refl c.plain_bytes-at.ensures.count in
     let at : ℕ = c.parts.at + c.plain_bytes-at.result in
-    open_end text _ at here.1 (subst (IsEnd (get_or text 0 0)) (take_rest text at) c.in-End-2.ensures) (λ below e. false≢true (sym c.if-is_at.false ∙ c.is_at.ensures.1 (below, e)))
+    open_end text _ at here.1 (subst IsEnd (take_rest text at) c.in-End.ensures)
