@@ -19,9 +19,9 @@ mod tests;
 mod token;
 mod word;
 
-pub use fault::{LexErr, LexWhat};
 pub use cutting::cut;
+pub use fault::{LexErr, LexWhat};
+pub use luf_text::Span;
 pub use note::Note;
 pub use pieces::Cut;
-pub use luf_text::Span;
 pub use token::{Kind, Piece, Sign, Tok, Word};

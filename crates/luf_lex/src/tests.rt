@@ -17,7 +17,11 @@ fn check_tokens(
     assert_eq!(rt; cut.tokens() as usize, want.len(), "in {src:?}");
     for (n, (tok, spelling)) in want.iter().enumerate() {
         assert_eq!(rt; cut.token(n as u32), Some(*tok), "token {n} of {src:?}");
-        assert_eq!(rt; cut.spelling(src, n as u32), Some(*spelling), "token {n} of {src:?}");
+        assert_eq!(rt;
+            cut.spelling(src, n as u32),
+            Some(*spelling),
+            "token {n} of {src:?}"
+        );
     }
     Ok(())
 }
@@ -31,19 +35,19 @@ fn pieces(rt: HostRuntime) -> Result<(), Fail> {
         (Kind::LineEnd, 10),
         (Kind::Token(Tok::Name), 11),
         (Kind::Blank, 12),
-        (Kind::Comment, 22),
-        (Kind::Blank, 23),
-        (Kind::Token(Tok::Sign(Sign::Assign)), 24),
-        (Kind::Comment, 27),
-        (Kind::LineEnd, 29),
-        (Kind::Token(Tok::Number), 30),
+        (Kind::Comment, 23),
+        (Kind::Blank, 24),
+        (Kind::Token(Tok::Sign(Sign::Assign)), 25),
+        (Kind::Comment, 28),
+        (Kind::LineEnd, 30),
+        (Kind::Token(Tok::Number), 31),
     ];
     let cut = cut(rt.alloc(), src)?;
     assert_eq!(rt; cut.pieces().len(), kinds.len());
     for (piece, (kind, to)) in cut.pieces().iter().zip(kinds) {
         assert_eq!(rt; (piece.kind, piece.span.to), (kind, to));
     }
-    assert_eq!(rt; cut.span(1), Some(Span { from: 23, to: 24 }));
+    assert_eq!(rt; cut.span(1), Some(Span { from: 24, to: 25 }));
     assert_eq!(rt; cut.span(3), None);
     Ok(())
 }
@@ -141,4 +145,55 @@ fn faults(rt: HostRuntime) {
         let error = cut(rt.alloc(), src).err();
         assert_eq!(rt; error, Some(LexErr::Bad { at, what }), "in {src:?}");
     }
+}
+
+/// A comment after a `#` line, one after an empty line, and one between two tokens of a line.
+#[test]
+fn notes(rt: HostRuntime) -> Result<(), Fail> {
+    let cut = cut(rt.alloc(), b"#!lua\n--a\n\r\r \n--b\nx --[[\n]] y\n ")?;
+    assert_eq!(rt; cut.tokens(), 2);
+    let first = Note {
+        span: Span { from: 6, to: 9 },
+        own_line: true,
+        line_after: true,
+        blank_before: false,
+    };
+    let second = Note {
+        span: Span { from: 14, to: 17 },
+        own_line: true,
+        line_after: true,
+        blank_before: true,
+    };
+    assert_eq!(rt; cut.lead(0), [first, second].as_slice());
+    let inner = Note {
+        span: Span { from: 20, to: 27 },
+        own_line: false,
+        line_after: false,
+        blank_before: false,
+    };
+    assert_eq!(rt; cut.lead(1), [inner].as_slice());
+    assert!(rt; cut.lead(2).is_empty());
+    assert_eq!(rt;
+        (cut.blank(0), cut.blank(1), cut.blank(2)),
+        (false, false, false)
+    );
+    Ok(())
+}
+
+/// An empty line before a token may hold blanks, and stands also after a `#` line and at the end.
+#[test]
+fn empty_lines(rt: HostRuntime) -> Result<(), Fail> {
+    let rows: [(&[u8], bool, bool); 5] = [
+        (b"#\n\nx\n", true, false),
+        (b"\nx\r\n", false, false),
+        (b"\n\nx\r\n \r\n", true, true),
+        (b"--a\n \nx--b\n\n--c", true, false),
+        (b"x\n\r\n", false, true),
+    ];
+    for (src, before, after) in rows {
+        let cut = cut(rt.alloc(), src)?;
+        assert_eq!(rt; cut.tokens(), 1, "in {src:?}");
+        assert_eq!(rt; (cut.blank(0), cut.blank(1)), (before, after), "in {src:?}");
+    }
+    Ok(())
 }
