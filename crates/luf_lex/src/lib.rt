@@ -15,6 +15,8 @@ mod pieces;
 mod plain;
 mod sign;
 mod string;
+#[cfg(test)]
+mod tests;
 mod token;
 mod word;
 
