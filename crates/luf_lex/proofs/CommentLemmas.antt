@@ -1,6 +1,9 @@
 -- Comments at the front of a text.
 use Rattle.std.proofs.Common.{◌≡◌, ℕ, zero, suc, ◌-◌, ◌<◌, ◌≤◌, ◌⊎◌, true, false, List, [], ◌∷◌, length, get_or, take, drop, refl, sym, ap, subst, ◌∙◌, arith, inl, inr}
-use Rattle.std.specs.List.{list_all}
+use Rattle.std.proofs.lemmas.List.Sums.{prefix_len-le-length}
+use Rattle.std.proofs.lemmas.Bool.{cases_lt}
+use Rattle.luf_lex.proofs.RunLemmas.{passing_front, front_passes}
+use Rattle.std.specs.List.{list_all, prefix_len}
 use Rattle.std.proofs.lemmas.Bool.{false≢true, false_from_ne_true, and_parts}
 use Rattle.std.proofs.lemmas.Bool.Decides.{nat_tests}
 use Rattle.std.proofs.lemmas.List.{take-append-drop, take_rest}
@@ -35,6 +38,14 @@ not_all_in_line text n zero more within found each = omega arith
 not_all_in_line [] n (suc m) more within found each = omega arith
 not_all_in_line (b ∷ text) zero (suc m) more within found each = ends_line b found (and_parts (in_line b) (list_all in_line (take m text)) each).0
 not_all_in_line (b ∷ text) (suc n) (suc m) more within found each = not_all_in_line text n m (omega arith) (omega arith) found (and_parts (in_line b) (list_all in_line (take m text)) each).1
+
+-- bytes of a line, up to the first that is not, are the longest run of such
+pub line_run : (text : List ℕ) (n : ℕ) → n ≤ length text → list_all in_line (take n text) ≡ true → ((m : ℕ) → n < m → m ≤ length text → list_all in_line (take m text) ≡ true → ⊥) → n ≡ prefix_len in_line text
+line_run text n within each longest = by_order (cases_lt n (prefix_len in_line text))
+  where
+    by_order : (n < prefix_len in_line text) ⊎ (prefix_len in_line text ≤ n) → n ≡ prefix_len in_line text
+    by_order (inl less) = absurd (longest (prefix_len in_line text) less (prefix_len-le-length in_line text) (front_passes in_line text))
+    by_order (inr more) = omega (arith, more, passing_front in_line text n within each)
 
 -- ---- the fronts of a comment
 

@@ -11,3 +11,4 @@ pub mod CommentLemmas
 pub mod FaultLaws
 pub mod NoteLemmas
 pub mod OneCut
+pub mod WholeCut

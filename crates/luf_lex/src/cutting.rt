@@ -4,11 +4,11 @@ ghost use Rattle.std.specs.List.{prefix_len};
 ghost use Rattle.luf_lex.specs.Byte.{in_line};
 ghost use Rattle.luf_lex.specs.Cut.{IsCut, IsCause, head_of, head_end, mark_length, hash_length};
 
-use crate::byte::is_line_byte;
 use crate::first::first;
 use crate::{Cut, Kind, LexErr, Piece};
 use luf_memory::Memory;
 use luf_text::Span;
+use memchr::memchr2;
 use std::alloc::Global;
 
 /// Cuts a source of at most 16 MiB into its pieces.
@@ -108,10 +108,8 @@ fn line_run(text: &[u8]) -> usize
     ensures run { result ≡ prefix_len in_line text.now }
     ensures within { result ≤ length text.now }
 {
-    for (i, b) in text.iter().enumerate() {
-        if is_line_byte(*b) {
-            return i;
-        }
+    match memchr2(b'\n', b'\r', text) {
+        Some(end) => end,
+        None => text.len(),
     }
-    text.len()
 }

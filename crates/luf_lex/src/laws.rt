@@ -1,5 +1,5 @@
 // Of a source, exactly one of a cut and a lexical fault exists, and it is one.
-ghost use Rattle.std.specs.Prelude.{◌≡◌, ◌≤◌, ℕ, List, length, MatchOption};
+ghost use Rattle.std.specs.Prelude.{◌≡◌, ◌≤◌, ℕ, List, length, flat_map, slice_range, MatchOption};
 ghost use Rattle.luf_lex.specs.Cut.{IsCut, IsLexFault};
 ghost use Rattle.luf_lex.specs.declared.fault.LexWhat.{LexWhat};
 ghost use Rattle.luf_lex.specs.declared.token.Piece.{Piece};
@@ -37,4 +37,9 @@ pub fn cut_or_fault()
 /// A source has at most one lexical fault.
 pub fn one_fault()
     ensures { (source : List ℕ) (at place : ℕ) (what other : LexWhat) → IsLexFault source at what → IsLexFault source place other → (at ≡ place) × (what ≡ other) }
+{}
+
+/// The pieces of a cut, joined, are the source.
+pub fn joined()
+    ensures { (source : List ℕ) (pieces : List Piece) → IsCut source pieces → flat_map (λ p. slice_range source p.span.from p.span.to) pieces ≡ source }
 {}

@@ -22,7 +22,7 @@ mod word;
 
 pub use cutting::cut;
 pub use fault::{LexErr, LexWhat};
-pub use laws::{cut_or_fault, lexical_fault, one_cut, one_fault};
+pub use laws::{cut_or_fault, joined, lexical_fault, one_cut, one_fault};
 pub use luf_text::Span;
 pub use note::Note;
 pub use pieces::Cut;

@@ -1,12 +1,14 @@
-use Rattle.std.proofs.Common.{length, sym, ap, not, ◌∙◌, arith}
-use Rattle.std.proofs.lemmas.List.Sums.{prefix_len_is}
-use Rattle.luf_lex.specs.Byte.{in_line}
+use Rattle.std.proofs.Common.{ℕ, List, length, take, refl, arith}
+use Rattle.luf_lex.proofs.CommentLemmas.{all_in_line, not_all_in_line, line_run}
 use Rattle.luf_lex.proofs.cutting.line_run.Goals as goal
 
-pub returns-then-is_line_byte-clause-run : goal.returns-then-is_line_byte-clause-run
-returns-then-is_line_byte-clause-run c =
-    sym (prefix_len_is in_line c.args.text.now c.loop-i.i 0 (omega arith) c.loop-i.invariant (λ _. ap not (sym c.is_line_byte.ensures ∙ c.if-is_line_byte.true)))
+pub returns-in-Some-clause-run : goal.returns-in-Some-clause-run
+returns-in-Some-clause-run c =
+    let text : List ℕ = c.args.text.now in
+    let found = c.in-Some.ensures in
+    line_run text c.in-Some.end (omega (arith, found.0.high)) (all_in_line text c.in-Some.end (omega (arith, found.0.high)) (λ i below. found.0.before i (omega arith) below)) (λ m more within. not_all_in_line text c.in-Some.end m more within found.1)
 
-pub returns-clause-run : goal.returns-clause-run
-returns-clause-run c =
-    sym (prefix_len_is in_line c.args.text.now (length c.args.text.now) 0 (omega arith) (λ k h. c.loop-i.invariant k (omega arith)) (λ h. absurd (omega arith)))
+pub returns-in-None-clause-run : goal.returns-in-None-clause-run
+returns-in-None-clause-run c =
+    let text : List ℕ = c.args.text.now in
+    line_run text (length text) (omega arith) (all_in_line text (length text) (omega arith) (λ i below. c.in-None.ensures i (omega arith) below)) (λ m more within each. omega arith)
