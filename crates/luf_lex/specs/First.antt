@@ -51,7 +51,7 @@ is_tried Other LineEnd = true
 is_tried _ _ = false
 
 -- How many bytes a numeral goes on for, after the Lua 5.4 scanner: hexadecimal digits, points, and marks of an
--- exponent, each with a sign where one follows; and then one letter, which leaves no numeral.
+-- exponent, each with a sign where one follows; and then one letter or `_`, with which it has no numeral form.
 abbrev pub numeral_tail : (ℕ → Bool) → List ℕ → ℕ
 numeral_tail mark [] = 0
 numeral_tail mark (b ∷ []) = if is_hex_digit b || (b == 46 || is_letter b) then 1 else 0
@@ -86,7 +86,7 @@ pub record IsFirst (text : List ℕ) (kind : Kind) (n : ℕ) : Type 0 where
 abbrev pub HasNone : List ℕ → Type 0
 HasNone text = (kind : Kind) (n : ℕ) → IsFirst text kind n → ⊥
 
--- no front of the text is a long string
+-- the text begins with a long bracket, and no front of it is a long string
 abbrev pub IsOpenLong : List ℕ → Type 0
 IsOpenLong text = (opens_long text ≡ true) × ((n : ℕ) → IsLongSpelling (take n text) → ⊥)
 

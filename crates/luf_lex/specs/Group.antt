@@ -1,4 +1,4 @@
--- The group that the code's name of it means.
+-- What the variants of the code's type `Tried` mean.
 use Rattle.luf_lex.specs.First.{Group, Quoted, Bracketed, Commented, Numeric, Other}
 use Rattle.luf_lex.specs.declared.group.Tried.{Tried}
 use Rattle.luf_lex.specs.declared.group.Tried.TheVariants as tried

@@ -24,7 +24,7 @@ abbrev pub is_content : Kind → Bool
 is_content kind = is_token kind || is_comment kind
 
 -- Whether no token and no comment stands after the last line end of these pieces, or from their start where there is
--- none. A comment of several lines counts on its last line. A mark and a `#` line count as nothing.
+-- none. What has several lines counts on its last line. A mark and a `#` line count as nothing.
 abbrev pub at_line_start : List Piece → Bool
 at_line_start before = list_all (λ p. not (is_content p.kind)) (take_while (λ p. not (is_line_end p.kind)) (reverse before))
 
@@ -37,7 +37,7 @@ abbrev pub last_gap : List Piece → List Piece
 last_gap before = drop (length before - suffix_len (λ p. not (is_content p.kind)) before) before
 
 -- Whether an empty line ends these pieces: two line ends or more stand in their last gap. The first ends the line of
--- what stands before the gap, or a `#` line, or is the first of the source: one alone leaves no empty line.
+-- what stands before the gap, or of a `#` line; at the start of the source it is not counted either.
 abbrev pub has_empty_line : List Piece → Bool
 has_empty_line before = nat_le 2 (count_by (λ p. is_line_end p.kind) (last_gap before))
 

@@ -38,6 +38,6 @@ sign_spelling Dot = codes "."
 sign_spelling DotDot = codes ".."
 sign_spelling Dots = codes "..."
 
--- the text begins with this
+-- whether a text begins with these bytes
 abbrev pub Begins : List ℕ → List ℕ → Type 0
 Begins text front = take (length front) text ≡ front

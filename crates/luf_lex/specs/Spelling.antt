@@ -18,7 +18,7 @@ pub record IsName (text : List ℕ) : Type 0 where
   pub each : list_all is_word_byte text ≡ true
   pub no_keyword : (w : Keyword) → word_spelling w ≡ text → ⊥
 
--- a string in quotes, each escape of which is one
+-- a string in quotes, in which each backslash begins an escape
 abbrev pub IsShortString : List ℕ → Type 0
 IsShortString text = (value : List ℕ) × IsShortValue text value
 
@@ -36,7 +36,7 @@ abbrev pub opens_long : List ℕ → Bool
 opens_long [] = false
 opens_long (b ∷ rest) = b == 91 && begins (λ c. c == 91) (drop (prefix_len (λ c. c == 61) rest) rest)
 
--- `--` and then no long bracket, up to the line's end
+-- `--` and then no long bracket, and no line end
 pub record IsShortComment (text : List ℕ) : Type 0 where
   pub rest : List ℕ
   pub spelled : text ≡ 45 ∷ 45 ∷ rest
@@ -49,7 +49,7 @@ pub record IsLongComment (text : List ℕ) : Type 0 where
   pub spelled : text ≡ 45 ∷ 45 ∷ rest
   pub long : IsLongSpelling rest
 
--- a first line that begins with `#`, without its line end
+-- `#`, and then no line end
 pub record IsHashLine (text : List ℕ) : Type 0 where
   pub first : begins (λ b. b == 35) text ≡ true
   pub each : list_all in_line text ≡ true

@@ -1,4 +1,4 @@
-// Of a source, exactly one of a cut and a lexical fault exists, and it is one.
+// Laws of the cut: a source has either one cut or one lexical fault.
 ghost use Rattle.std.specs.Prelude.{◌≡◌, ◌≤◌, ℕ, List, length, flat_map, slice_range, MatchOption};
 ghost use Rattle.luf_lex.specs.Cut.{IsCut, IsLexFault};
 ghost use Rattle.luf_lex.specs.declared.fault.LexWhat.{LexWhat};

@@ -62,7 +62,8 @@ impl Leads {
     }
 }
 
-/// A comment that stands between these pieces. It reads only up to the next content or line end on either side.
+/// A comment that stands between these pieces. It reads back to the last content, and on to the next content or
+/// line end.
 fn note_of(before: &[Piece], comment: Piece, after: &[Piece]) -> Note
     ensures { result ≡ notes.note_of before.now comment after.now }
 {

@@ -48,6 +48,6 @@ pub data IsEscape : List ℕ → List ℕ → List ℕ → Type 0 where
   code : (digits next : List ℕ) → 1 ≤ length digits → AllByRecursion (λ b. IsTrue (is_hex_digit b)) digits → hex_number digits < 2 ^ 31
       → IsEscape (117 ∷ 123 ∷ (digits ++ 125 ∷ [])) next (utf8 (hex_number digits))
 
--- no escape stands behind a backslash that this text follows
+-- the text, which follows a backslash, begins with no escape
 abbrev pub NoEscape : List ℕ → Type 0
 NoEscape text = (escape next value : List ℕ) → text ≡ escape ++ next → ¬ IsEscape escape next value

@@ -27,7 +27,7 @@ spelling_of parts = flat_map (λ (p : Part). p.spelling) parts
 abbrev pub meaning_of : List Part → List ℕ
 meaning_of parts = flat_map (λ (p : Part). p.value) parts
 
--- each of the parts is one, and is not continued by what follows
+-- each of these is a part, before what follows it
 abbrev pub AreParts : ℕ → List Part → List ℕ → Type 0
 AreParts q parts next = AllInPlace (λ (p : Part) following. IsPart q p.spelling following p.value) (λ (p : Part). p.spelling) parts next
 

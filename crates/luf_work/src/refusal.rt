@@ -11,7 +11,7 @@ pub enum Refusal {
     TooLarge,
     /// The source has no cut into pieces: where its first fault is, and which.
     Lexical(Place, LexWhat),
-    /// The source is not of the small form.
+    /// The source begins with a `#` line, or its tokens are not of the small form.
     NotYet,
     /// No memory was found.
     Memory,
