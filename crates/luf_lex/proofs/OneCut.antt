@@ -151,10 +151,10 @@ one_cut source pieces others cut whole =
     let rest = same_stop source (head_end source) cut.rest whole.rest (length source) (length source) cut.cut whole.cut (none_at_end source) (none_at_end source) in
     cut.head ∙ ap (λ ps. head_of source ++ ps) rest.0 ∙ sym whole.head
 
-pub cut_or_fault : (source : List ℕ) (pieces : List Piece) (at : ℕ) (what : LexWhat) → IsCut source pieces → IsLexFault source at what → at < length source → ⊥
-cut_or_fault source pieces at what cut fault inside =
+pub cut_or_fault : (source : List ℕ) (pieces : List Piece) (at : ℕ) (what : LexWhat) → IsCut source pieces → IsLexFault source at what → ⊥
+cut_or_fault source pieces at what cut fault =
     let stop = same_stop source (head_end source) cut.rest fault.pieces (length source) at cut.cut fault.before (none_at_end source) (fault_has_none fault.fault) in
-    omega (arith, stop.1)
+    omega (arith, stop.1, fault.inside)
 
 pub one_fault : (source : List ℕ) (at else_at : ℕ) (what other : LexWhat) → IsLexFault source at what → IsLexFault source else_at other → (at ≡ else_at) × (what ≡ other)
 one_fault source at else_at what other fault also =

@@ -1,5 +1,5 @@
 // Of a source, exactly one of a cut and a lexical fault exists, and it is one.
-ghost use Rattle.std.specs.Prelude.{◌≡◌, ◌<◌, ◌≤◌, ℕ, List, length, MatchOption};
+ghost use Rattle.std.specs.Prelude.{◌≡◌, ◌≤◌, ℕ, List, length, MatchOption};
 ghost use Rattle.luf_lex.specs.Cut.{IsCut, IsLexFault};
 ghost use Rattle.luf_lex.specs.declared.fault.LexWhat.{LexWhat};
 ghost use Rattle.luf_lex.specs.declared.token.Piece.{Piece};
@@ -12,7 +12,7 @@ use crate::first::first;
 /// has a cut.
 pub fn lexical_fault(src: &[u8]) -> Option<(u32, LexWhat)>
     requires { length src.now ≤ 16777216 }
-    ensures { MatchOption result ((pieces : List Piece) × IsCut src.now pieces) (λ fault. IsLexFault src.now fault.0 fault.1 × (fault.0 < length src.now)) }
+    ensures { MatchOption result ((pieces : List Piece) × IsCut src.now pieces) (λ fault. IsLexFault src.now fault.0 fault.1) }
 {
     let mut at = head_len(src);
     'pieces: while at < src.len() {
@@ -29,9 +29,9 @@ pub fn one_cut()
     ensures { (source : List ℕ) (pieces others : List Piece) → IsCut source pieces → IsCut source others → pieces ≡ others }
 {}
 
-/// A source that has a cut has no lexical fault before its end.
+/// A source that has a cut has no lexical fault.
 pub fn cut_or_fault()
-    ensures { (source : List ℕ) (pieces : List Piece) (at : ℕ) (what : LexWhat) → IsCut source pieces → IsLexFault source at what → at < length source → ⊥ }
+    ensures { (source : List ℕ) (pieces : List Piece) (at : ℕ) (what : LexWhat) → IsCut source pieces → IsLexFault source at what → ⊥ }
 {}
 
 /// A source has at most one lexical fault.

@@ -1,7 +1,8 @@
 -- The text of tokens is cut into them again.
 use Rattle.std.proofs.Common.{◌≡◌, ℕ, zero, suc, ◌+◌, ◌-◌, ◌<◌, ◌≤◌, ◌⊎◌, inl, inr, Bool, true, false, cond, eqb, ◌&&◌, ◌||◌, List, [], ◌∷◌, ◌++◌, Option, Some, None, length, length-append, length-drop, append-nil, take, drop, get_or, reverse, refl, sym, ap, ◌∙◌, subst, arith, append_assoc}
-use Rattle.std.specs.List.{list_all, prefix_len}
-use Rattle.std.specs.Prelude.{map, slice_range, slice_get}
+use Rattle.std.specs.List.{list_all, prefix_len, starts_with}
+use Rattle.std.specs.Prelude.{map, slice_range, slice_get, nat_eq}
+use Rattle.std.proofs.lemmas.List.{length-take-le}
 use Rattle.std.specs.Option.{option_to_list}
 use mathlib.Core.List.{reverse_aux}
 use Rattle.std.proofs.Math.Bool.{and-false}
@@ -22,7 +23,7 @@ use Rattle.luf_lex.specs.declared.token.Tok.TheVariants.{Name, Number, Word, Sig
 use Rattle.luf_lex.specs.declared.token.Sign.{Sign as Mark}
 use Rattle.luf_lex.specs.declared.token.Sign.TheVariants.{Plus, Equal, Assign}
 use Rattle.luf_lex.specs.declared.token.Kind.{Kind}
-use Rattle.luf_lex.specs.declared.token.Kind.TheVariants.{Token, Blank}
+use Rattle.luf_lex.specs.declared.token.Kind.TheVariants.{Token, Blank, HashLine, Mark}
 use Rattle.luf_lex.specs.declared.token.Piece.{Piece}
 use Rattle.luf_lex.proofs.RunLemmas.{begins_weaker, all_weaker}
 use Rattle.luf_lex.proofs.PlainLemmas.{blank_is_no_word, letter_is_word, keyword_letter, word_spelled, run_first, blank_first, sign_first}
@@ -241,6 +242,10 @@ stops_word_tok Number x other small h = h
 stops_word_tok (Word w) x other small h = h
 stops_word_tok _ x other small h = absurd small
 
+no_equal : (b : List ℕ) → begins is_word_byte b ≡ true → begins is_equal b ≡ false
+no_equal [] h = refl
+no_equal (c ∷ b) h = false_from_ne_true (is_equal c) (word_is_no_equal c h)
+
 -- what follows without a space does not go on from the token before
 stops_next : (t u : Tok) (a b : List ℕ) (rest : List (List ℕ)) → IsSmallTok t → IsSmallTok u → IsSpelledTok t a → IsSpelledTok u b → (t ≡ Sign Assign → u ≡ Sign Assign → ⊥)
   → (begins is_word_byte (reverse a) && begins is_word_byte b) ≡ false → Stops t (text_of (b ∷ rest))
@@ -255,10 +260,6 @@ stops_next t u a b rest small_t small_u ht hu apart none = by_forms (token_form 
     by_forms (inr f) (inl g) =
       subst (λ (v : Tok). Stops v (text_of (b ∷ rest))) (sym f.0) (text_begins is_equal b rest hu.2 ∙ no_equal b g.1)
     by_forms (inr f) (inr g) = absurd (apart f.0 g.0)
-
-    no_equal : (b : List ℕ) → begins is_word_byte b ≡ true → begins is_equal b ≡ false
-    no_equal [] h = refl
-    no_equal (c ∷ b) h = false_from_ne_true (is_equal c) (word_is_no_equal c h)
 
 -- one space before a letter or a digit is a piece
 space_before : (x : List ℕ) → begins is_word_byte x ≡ true → IsFirst (32 ∷ x) Blank 1
@@ -335,3 +336,73 @@ text_cut source at (t ∷ u ∷ toks) (a ∷ b ∷ rest) within small h e =
       let all : drop at source ≡ a ++ text_of (b ∷ rest) = t_is false j in
       with_token source at t a (text_of (b ∷ rest)) (u ∷ toks) (b ∷ rest) all (first_before t a (text_of (b ∷ rest)) small.0 h.0 (stops_next t u a b rest small.0 small.2.0 h.0 h.1.0 small.1 j))
         (later (at + length a) (omega (arith, length-drop at source, ap length all, length-append a (text_of (b ∷ rest)))) (drop_past source a (text_of (b ∷ rest)) at all))
+
+-- what begins a token of the small form begins no mark and no `#` line
+plain_front : (b : ℕ) (rest : List ℕ) → eqb b 239 ≡ false → eqb b 35 ≡ false → (mark_length (b ∷ rest) ≡ 0) × (hash_length (b ∷ rest) ≡ 0)
+plain_front b rest mark hash =
+    (ap (λ v. cond (v && starts_with nat_eq rest (0xBB ∷ 0xBF ∷ [])) 3 0) mark, ap (λ v. cond v (prefix_len in_line (b ∷ rest)) 0) hash)
+
+word_no_mark : (b : ℕ) → is_word_byte b ≡ true → (eqb b 239 ≡ false) × (eqb b 35 ≡ false)
+word_no_mark b word = (grind (arith, nat_tests), grind (arith, nat_tests))
+
+begins_no_hash : (t : Tok) (a x : List ℕ) → IsSmallTok t → IsSpelledTok t a → (mark_length (a ++ x) ≡ 0) × (hash_length (a ++ x) ≡ 0)
+begins_no_hash t a x small h = by_form (token_form t a small h)
+  where
+    word_front : (a : List ℕ) → begins is_word_byte a ≡ true → (mark_length (a ++ x) ≡ 0) × (hash_length (a ++ x) ≡ 0)
+    word_front [] word = cc
+    word_front (b ∷ a) word = plain_front b (a ++ x) (word_no_mark b word).0 (word_no_mark b word).1
+
+    by_form : ((t ≡ Sign Assign → ⊥) × IsWord a) ⊎ ((t ≡ Sign Assign) × (a ≡ 61 ∷ [])) → (mark_length (a ++ x) ≡ 0) × (hash_length (a ++ x) ≡ 0)
+    by_form (inl f) = word_front a f.1
+    by_form (inr f) = subst (λ (s : List ℕ). (mark_length (s ++ x) ≡ 0) × (hash_length (s ++ x) ≡ 0)) (sym f.1) (refl, refl)
+
+-- so the text of such tokens has no head
+text_plain : (toks : List Tok) (spellings : List (List ℕ)) → AreSmall toks → Spelled toks spellings → (mark_length (text_of spellings) ≡ 0) × (hash_length (text_of spellings) ≡ 0)
+text_plain [] [] small h = (refl, refl)
+text_plain [] (a ∷ spellings) small h = absurd h
+text_plain (t ∷ toks) [] small h = absurd h
+text_plain (t ∷ toks) (a ∷ []) small h = subst (λ (s : List ℕ). (mark_length s ≡ 0) × (hash_length s ≡ 0)) (append-nil a) (begins_no_hash t a [] small.0 h.0)
+text_plain (t ∷ toks) (a ∷ b ∷ rest) small h =
+    subst (λ (s : List ℕ). (mark_length s ≡ 0) × (hash_length s ≡ 0)) (sym (append_assoc a (between a b) (text_of (b ∷ rest)))) (begins_no_hash t a (between a b ++ text_of (b ∷ rest)) small.0 h.0)
+
+no_head : (text : List ℕ) → mark_length text ≡ 0 → hash_length text ≡ 0 → (head_end text ≡ 0) × (head_of text ≡ [])
+no_head text mark hash =
+    let behind : hash_length (drop (mark_length text) text) ≡ 0 = ap (λ n. hash_length (drop n text)) mark ∙ hash in
+    let end : head_end text ≡ 0 = omega (arith, mark, behind) in
+    (end, heads (mark_length text) (head_end text) mark end)
+  where
+    heads : (m n : ℕ) → m ≡ 0 → n ≡ 0 → (cond (eqb m 0) [] (record { kind = Mark; span = record { from = 0; to = m } } ∷ []) ++ cond (eqb n m) [] (record { kind = HashLine; span = record { from = m; to = n } } ∷ [])) ≡ {A = List Piece} []
+    heads m n em en = subst (λ i. (cond (eqb i 0) [] (record { kind = Mark; span = record { from = 0; to = i } } ∷ []) ++ cond (eqb n i) [] (record { kind = HashLine; span = record { from = i; to = n } } ∷ [])) ≡ {A = List Piece} []) (sym em)
+      (subst (λ i. (cond (eqb i 0) [] (record { kind = HashLine; span = record { from = 0; to = i } } ∷ [])) ≡ {A = List Piece} []) (sym en) refl)
+
+-- ---- the tokens of a cut are spelled as they are in the source
+
+-- each numeral among them is digits
+abbrev AreDigits : List Tok → List (List ℕ) → Type 0
+AreDigits toks spellings = (n : ℕ) (a : List ℕ) → slice_get toks n ≡ Some Number → slice_get spellings n ≡ Some a → list_all is_digit a ≡ true
+
+abbrev made_of : List ℕ → Piece → List ℕ
+made_of source p = slice_range source p.span.from p.span.to
+
+behind_first : (t : Tok) (toks : List Tok) (a : List ℕ) (spellings : List (List ℕ)) → AreDigits (t ∷ toks) (a ∷ spellings) → AreDigits toks spellings
+behind_first t toks a spellings digits n b tok spelling =
+    let next : n + 1 ≡ suc n = omega arith in
+    digits (n + 1) b (ap (λ i. slice_get (t ∷ toks) i) next ∙ tok) (ap (λ i. slice_get (a ∷ spellings) i) next ∙ spelling)
+
+kind_spelled : (source : List ℕ) (p : Piece) (k : Kind) → p.kind ≡ k → (rest : List Piece) → Spells p.kind (made_of source p) → 0 < length (made_of source p)
+  → (AreDigits (toks_of rest) (spellings_of source rest) → Spelled (toks_of rest) (spellings_of source rest))
+  → AreDigits (option_to_list (tok_of k) ++ toks_of rest) (map (made_of source) (cond (is_token k) (p ∷ tokens_of rest) (tokens_of rest)))
+  → Spelled (option_to_list (tok_of k) ++ toks_of rest) (map (made_of source) (cond (is_token k) (p ∷ tokens_of rest) (tokens_of rest)))
+kind_spelled source p (Token t) e rest h some later digits =
+    ((subst (λ (k : Kind). Spells k (made_of source p)) e h, (λ number. digits 0 (made_of source p) (ap Some number) refl), some), later (behind_first t (toks_of rest) (made_of source p) (spellings_of source rest) digits))
+kind_spelled source p _ e rest h some later digits = later digits
+
+front_some : (source : List ℕ) (p : Piece) (n : ℕ) → 0 < n → n ≤ length (drop p.span.from source) → 0 < length (take n (drop p.span.from source))
+front_some source p n some within = omega (arith, length-take-le n (drop p.span.from source) within)
+
+cut_spelled : (source : List ℕ) (at : ℕ) (pieces : List Piece) (to : ℕ) → Cuts source at pieces to → AreDigits (toks_of pieces) (spellings_of source pieces) → Spelled (toks_of pieces) (spellings_of source pieces)
+cut_spelled source at [] to cut digits = tt
+cut_spelled source at (p ∷ pieces) to cut digits =
+    let first : IsFirst (drop p.span.from source) p.kind (p.span.to - p.span.from) = subst (λ i. IsFirst (drop i source) p.kind (p.span.to - p.span.from)) (sym cut.0) cut.2 in
+    kind_spelled source p p.kind refl pieces first.spelled (front_some source p (p.span.to - p.span.from) first.some first.within)
+      (λ later. cut_spelled source p.span.to pieces to cut.3 later) digits
