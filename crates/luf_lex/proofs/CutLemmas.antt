@@ -16,4 +16,4 @@ cuts_push source at (q ∷ pieces) mid p cut from more first =
 pub cuts_next : (source : List ℕ) (head : ℕ) (pieces : List Piece) (at n : ℕ) (p : Piece) → Cuts source head pieces at → p.span.from ≡ at → p.span.to ≡ at + n → IsFirst (drop at source) p.kind n → Cuts source head (pieces ++ p ∷ []) (at + n)
 cuts_next source head pieces at n p cut from to first =
     subst (λ i. Cuts source head (pieces ++ p ∷ []) i) to
-      (cuts_push source head pieces at p cut from (omega (arith, to)) (subst (λ m. IsFirst (drop at source) p.kind m) (omega (arith, to)) first))
+    (cuts_push source head pieces at p cut from (omega (arith, to)) (subst (λ m. IsFirst (drop at source) p.kind m) (omega (arith, to)) first))

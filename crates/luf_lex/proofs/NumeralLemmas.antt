@@ -14,14 +14,14 @@ use Rattle.luf_lex.specs.Scan.{goes_on, mark_of, step_of}
 
 -- the same over what the tests answer: m a mark, s a sign behind it, h a hexadecimal digit, d a point, l a letter
 on_two : (m s g l : Bool) (f : List ℕ → ℕ) (b c : ℕ) (rest : List ℕ) → 0 < cond (m && s) 2 (cond (m || g) 1 0)
-  → cond (m && s) (2 + f rest) (cond (m || g) (1 + f (c ∷ rest)) (cond l 1 0)) ≡ cond (m && s) 2 (cond (m || g) 1 0) + f (drop (cond (m && s) 2 (cond (m || g) 1 0)) (b ∷ c ∷ rest))
+    → cond (m && s) (2 + f rest) (cond (m || g) (1 + f (c ∷ rest)) (cond l 1 0)) ≡ cond (m && s) 2 (cond (m || g) 1 0) + f (drop (cond (m && s) 2 (cond (m || g) 1 0)) (b ∷ c ∷ rest))
 on_two true true g l f b c rest some = refl
 on_two true false g l f b c rest some = refl
 on_two false s true l f b c rest some = refl
 on_two false s false l f b c rest some = absurd (omega arith)
 
 on_one : (m h d l : Bool) (f : List ℕ → ℕ) (b : ℕ) → f [] ≡ 0 → (m ≡ true → l ≡ true) → 0 < cond (m || (h || d)) 1 0
-  → cond (h || (d || l)) 1 0 ≡ cond (m || (h || d)) 1 0 + f (drop (cond (m || (h || d)) 1 0) (b ∷ []))
+    → cond (h || (d || l)) 1 0 ≡ cond (m || (h || d)) 1 0 + f (drop (cond (m || (h || d)) 1 0) (b ∷ []))
 on_one true true d l f b end letter some = omega (arith, end)
 on_one true false true l f b end letter some = omega (arith, end)
 on_one true false false l f b end letter some = ap (λ x. cond x 1 0) (letter refl) ∙ omega (arith, end)
@@ -81,7 +81,7 @@ one_letter text = cond (begins is_letter text) 1 0
 
 -- the scan so far, one step further
 pub scan_on : (lower : ℕ) (text : List ℕ) (at width : ℕ) → is_letter lower ≡ true → is_letter (lower - 32) ≡ true → at + numeral_tail (mark_of lower) (drop at text) ≡ numeral_tail (mark_of lower) text → width ≡ step_of (mark_of lower) (drop at text) → 0 < width
-  → at + width + numeral_tail (mark_of lower) (drop (at + width) text) ≡ numeral_tail (mark_of lower) text
+    → at + width + numeral_tail (mark_of lower) (drop (at + width) text) ≡ numeral_tail (mark_of lower) text
 scan_on lower text at width small capital so is some =
     let on = step_on (mark_of lower) (mark_is_letter lower small capital) (drop at text) (omega (arith, is)) in
     let there : drop (step_of (mark_of lower) (drop at text)) (drop at text) ≡ drop (at + width) text = ap (λ n. drop n (drop at text)) (sym is) ∙ drop-drop width at text in
@@ -121,7 +121,6 @@ numeral_first text n group scan within form = record {
   numeral = λ _. scan;
   long = λ commented. cc;
 }
-
 
 pub numeral_fault : (text : List ℕ) (n : ℕ) → group_of text ≡ Numeric → n ≡ numeral_length text → (HasNumeralForm (take n text) → ⊥) → IsFault text BadNumeral
 numeral_fault text n group scan none = bad_numeral text group (subst (λ i. HasNumeralForm (take i text) → ⊥) scan none)

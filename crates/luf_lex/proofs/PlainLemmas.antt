@@ -114,7 +114,7 @@ sign_spelled _ text tried h l b e = absurd (false≢true tried)
 
 -- a first piece of this group
 pub plain_first : (text : List ℕ) (kind : Kind) (n : ℕ) → group_of text ≡ Other → is_tried Other kind ≡ true → 0 < n → n ≤ length text → Spells kind (take n text)
-  → ((other : Kind) (m : ℕ) → is_tried Other other ≡ true → n < m → m ≤ length text → Spells other (take m text) → ⊥) → IsFirst text kind n
+    → ((other : Kind) (m : ℕ) → is_tried Other other ≡ true → n < m → m ≤ length text → Spells other (take m text) → ⊥) → IsFirst text kind n
 plain_first text kind n group tried some within spelled longest = record {
   some = some;
   within = within;
@@ -127,12 +127,12 @@ plain_first text kind n group tried some within spelled longest = record {
 
 -- a run of bytes of one class is the first piece, where what is spelled with such a byte first has no others
 pub run_first : (p : ℕ → Bool) → ((other : Kind) (t : List ℕ) → is_tried Other other ≡ true → Spells other t → begins p t ≡ true → list_all p t ≡ true) → (text : List ℕ) (kind : Kind) (n : ℕ)
-  → group_of text ≡ Other → is_tried Other kind ≡ true → begins p text ≡ true → n ≡ prefix_len p text → Spells kind (take n text) → IsFirst text kind n
+    → group_of text ≡ Other → is_tried Other kind ≡ true → begins p text ≡ true → n ≡ prefix_len p text → Spells kind (take n text) → IsFirst text kind n
 run_first p closed text kind n group tried first run spelled =
     plain_first text kind n group tried (omega (arith, run_some p text first)) (omega (arith, prefix_len-le-length p text)) spelled
-      (λ other m t more within s.
-        let each : list_all p (take m text) ≡ true = closed other (take m text) t s (begins_take p text m (omega arith) ∙ first) in
-        omega (arith, passing_front p text m within each))
+    (λ other m t more within s.
+    let each : list_all p (take m text) ≡ true = closed other (take m text) t s (begins_take p text m (omega arith) ∙ first) in
+    omega (arith, passing_front p text m within each))
 
 letter_begins_word : (text : List ℕ) → begins is_letter text ≡ true → begins is_word_byte text ≡ true
 letter_begins_word text h = begins_weaker is_letter is_word_byte letter_is_word text h
@@ -165,22 +165,22 @@ line_end_some text (inr (inr (inr e))) = omega (arith, ap length e)
 pub line_end_first : (text : List ℕ) (n : ℕ) → group_of text ≡ Other → begins is_line_byte text ≡ true → n ≤ length text → IsLineEnd (take n text) → ((m : ℕ) → n < m → m ≤ length text → IsLineEnd (take m text) → ⊥) → IsFirst text LineEnd n
 line_end_first text n group first within spelled longest =
     plain_first text LineEnd n group refl (omega (arith, line_end_some (take n text) spelled, length-take n text)) within spelled
-      (λ other m t more inside s. longest m more inside (line_spelled other (take m text) t s (begins_take is_line_byte text m (omega arith) ∙ first)))
+    (λ other m t more inside s. longest m more inside (line_spelled other (take m text) t s (begins_take is_line_byte text m (omega arith) ∙ first)))
 
 sign_some : (s : Mark) → 0 < length (sign_spelling s)
 sign_some Plus = omega arith
 sign_some _ = omega arith
 
 pub sign_first : (text : List ℕ) (s : Mark) (n : ℕ) → group_of text ≡ Other → begins is_letter text ≡ false → begins is_blank text ≡ false → begins is_line_byte text ≡ false
-  → length (sign_spelling s) ≡ n → Begins text (sign_spelling s) → ((other : Mark) → n < length (sign_spelling other) → Begins text (sign_spelling other) → ⊥) → IsFirst text (Token (Sign s)) n
+    → length (sign_spelling s) ≡ n → Begins text (sign_spelling s) → ((other : Mark) → n < length (sign_spelling other) → Begins text (sign_spelling other) → ⊥) → IsFirst text (Token (Sign s)) n
 sign_first text s n group letter blank line len is longest =
     plain_first text (Token (Sign s)) n group refl (omega (arith, sign_some s)) (omega (arith, ap length is, length-take (length (sign_spelling s)) text))
-      (sym is ∙ ap (λ i. take i text) len)
-      (λ other m t more inside h.
-        let some : 0 < m = omega arith in
-        let found = sign_spelled other (take m text) t h (begins_take is_letter text m some ∙ letter) (begins_take is_blank text m some ∙ blank) (begins_take is_line_byte text m some ∙ line) in
-        let size : length (sign_spelling found.0) ≡ m = ap length found.1 ∙ length-take-le m text inside in
-        longest found.0 (omega arith) (ap (λ i. take i text) size ∙ sym found.1))
+    (sym is ∙ ap (λ i. take i text) len)
+    (λ other m t more inside h.
+    let some : 0 < m = omega arith in
+    let found = sign_spelled other (take m text) t h (begins_take is_letter text m some ∙ letter) (begins_take is_blank text m some ∙ blank) (begins_take is_line_byte text m some ∙ line) in
+    let size : length (sign_spelling found.0) ≡ m = ap length found.1 ∙ length-take-le m text inside in
+    longest found.0 (omega arith) (ap (λ i. take i text) size ∙ sym found.1))
 
 -- where no sign begins the text either, it has no first piece
 pub none_first : (text : List ℕ) → group_of text ≡ Other → begins is_letter text ≡ false → begins is_blank text ≡ false → begins is_line_byte text ≡ false → ((s : Mark) → Begins text (sign_spelling s) → ⊥) → HasNone text

@@ -86,7 +86,11 @@ fn mark_len(src: &[u8]) -> usize
     ensures mark { result ≡ mark_length src.now }
     ensures within { result ≤ length src.now }
 {
-    if src.starts_with(b"\xEF\xBB\xBF") { 3 } else { 0 }
+    if src.starts_with(b"\xEF\xBB\xBF") {
+        3
+    } else {
+        0
+    }
 }
 
 fn hash_len(text: &[u8]) -> usize

@@ -15,13 +15,15 @@ mod pieces;
 mod plain;
 mod sign;
 mod string;
+#[cfg(test)]
+mod tests;
 mod token;
 mod word;
 
-pub use fault::{LexErr, LexWhat};
 pub use cutting::cut;
+pub use fault::{LexErr, LexWhat};
 pub use laws::{cut_or_fault, lexical_fault, one_cut, one_fault};
+pub use luf_text::Span;
 pub use note::Note;
 pub use pieces::Cut;
-pub use luf_text::Span;
 pub use token::{Kind, Piece, Sign, Tok, Word};

@@ -5,8 +5,7 @@ ghost use Rattle.luf_lex.specs.Byte.{is_letter, begins};
 ghost use Rattle.luf_lex.specs.First.{IsFirst, IsFault, group_of, Numeric, numeral_tail, numeral_length};
 ghost use Rattle.luf_lex.specs.Scan.{mark_of, step_of};
 
-use crate::byte;
-use crate::{Kind, LexWhat, Tok};
+use crate::{Kind, LexWhat, Tok, byte};
 use luf_num::number_of;
 
 /// The length of the numeral that a text begins with, all of what the scan takes; or that it has not the form

@@ -1,2 +1,3 @@
-pub mod TextLemmas
 pub mod CutText
+pub mod RefusalLemmas
+pub mod TextLemmas

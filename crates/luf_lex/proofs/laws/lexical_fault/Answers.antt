@@ -22,9 +22,11 @@ pieces-preserved c =
 pub returns : goal.returns
 returns c =
     let source = c.args.src.now in
-    let all : c.pieces.at ≡ length source = omega (arith, c.pieces-test.false, c.pieces.invariant.within) in
-    (head_of source ++ c.pieces.invariant.before, record {
-      rest = c.pieces.invariant.before;
-      head = refl;
-      cut = subst (λ i. Cuts source (head_end source) c.pieces.invariant.before i) all c.pieces.invariant.cut;
-    })
+    let all : c.pieces.at ≡ length source = omega (arith, c.pieces-test.false, c.pieces.invariant.within) in (
+      head_of source ++ c.pieces.invariant.before,
+      record {
+        rest = c.pieces.invariant.before;
+        head = refl;
+        cut = subst (λ i. Cuts source (head_end source) c.pieces.invariant.before i) all c.pieces.invariant.cut;
+      },
+    )

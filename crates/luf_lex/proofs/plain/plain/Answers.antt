@@ -18,7 +18,7 @@ returns-in-Some c =
     let text = c.args.text.now in
     let some = c.requires.some in
     sign_first text c.in-Some.sign c.in-Some.len c.requires.other (begins_with is_letter text false some (sym c.is_letter.ensures ∙ c.if-is_letter.false)) (begins_with is_blank text false some (sym c.is_blank.ensures ∙ c.if-is_blank.false)) (begins_with is_line_byte text false some (sym c.is_line_byte.ensures ∙ c.if-is_line_byte.false))
-      c.in-Some.ensures.0 c.in-Some.ensures.1 c.in-Some.ensures.2
+    c.in-Some.ensures.0 c.in-Some.ensures.1 c.in-Some.ensures.2
 
 pub returns-in-None : goal.returns-in-None
 returns-in-None c =
