@@ -18,7 +18,6 @@ fn spaces(alloc: Global, len: usize) -> Result<Vec<u8>, AllocError> {
 
 #[test]
 fn rows(rt: HostRuntime) -> Result<(), Fail> {
-    let alloc = rt.alloc();
     for (line, source, status, text, refusal) in [
         (
             "minify",
@@ -27,35 +26,66 @@ fn rows(rt: HostRuntime) -> Result<(), Fail> {
             "local x=1 return x",
             "",
         ),
-        ("minify", "", Status::Done, "", ""),
-        ("minify", "x=1", Status::Refused, "", "-: NotYet\n"),
         (
             "minify",
-            "local x=1return x",
-            Status::Refused,
+            "local x = 1 -- c\nreturn x",
+            Status::Done,
+            "local x=1 return x",
             "",
-            "-: NotYet\n",
         ),
+        ("minify", "", Status::Done, "", ""),
+        ("minify", "x=1", Status::Refused, "", "-: NotYet\n"),
+        ("minify", "#!lua\nreturn x", Status::Refused, "", "-: NotYet\n"),
         ("", "", Status::Usage, "", "luafmt: Usage\n"),
         ("format", "", Status::Usage, "", "luafmt: Usage\n"),
         ("minify -", "", Status::Usage, "", "luafmt: Usage\n"),
     ] {
-        let words = words_of(alloc, line)?;
-        let mut input = MemSource::new(source.as_bytes().to_vec(alloc)?, 3, Vec::new(alloc));
-        let mut out = MemSink::new(alloc, 100, 1, Vec::new(alloc))?;
-        let mut errs = MemSink::new(alloc, 100, 4, Vec::new(alloc))?;
-        let result = run::run(
-            alloc,
-            &words,
-            &mut NoFiles::new(),
-            &mut input,
-            &mut out,
-            &mut errs,
-        );
-        assert_eq!(rt; result, status, "{line} {source}");
-        assert_eq!(rt; out.written(), text.as_bytes(), "{line} {source}");
-        assert_eq!(rt; errs.written(), refusal.as_bytes(), "{line} {source}");
+        row(&rt, line, source, status, text, refusal)?;
     }
+    Ok(())
+}
+
+// Sources that have no tokens from some place on.
+#[test]
+fn lexical_refusals(rt: HostRuntime) -> Result<(), Fail> {
+    for (source, refusal) in [
+        ("@", "-:1:1: NoToken\n"),
+        ("return 3..2", "-:1:8: BadNumeral\n"),
+        ("local x = 1return x", "-:1:11: BadNumeral\n"),
+        ("return \"\\q\"", "-:1:8: BadEscape\n"),
+        ("x = \"a", "-:1:5: OpenString\n"),
+        ("--[[", "-:1:1: OpenLong\n"),
+        ("return x\r\n\n  [=[ ]] ", "-:3:3: OpenLong\n"),
+    ] {
+        row(&rt, "minify", source, Status::Refused, "", refusal)?;
+    }
+    Ok(())
+}
+
+fn row(
+    rt: &HostRuntime,
+    line: &str,
+    source: &str,
+    status: Status,
+    text: &str,
+    refusal: &str,
+) -> Result<(), Fail> {
+    let alloc = rt.alloc();
+    let words = words_of(alloc, line)?;
+    let mut input = MemSource::new(source.as_bytes().to_vec(alloc)?, 3, Vec::new(alloc));
+    let mut out = MemSink::new(alloc, 100, 1, Vec::new(alloc))?;
+    let mut errs = MemSink::new(alloc, 100, 4, Vec::new(alloc))?;
+    let result = run::run(
+        alloc,
+        &words,
+        &mut NoFiles::new(),
+        &mut input,
+        &mut out,
+        &mut errs,
+    );
+    assert_eq!(rt; result, status, "{line} {source}");
+    assert_eq!(rt; out.written(), text.as_bytes(), "{line} {source}");
+    assert_eq!(rt; errs.written(), refusal.as_bytes(), "{line} {source}");
     Ok(())
 }
 
