@@ -16,8 +16,26 @@ fn spaces(alloc: Global, len: usize) -> Result<Vec<u8>, AllocError> {
     vec![in alloc; b' '; len]
 }
 
+// What a run over objects in memory answers and writes.
+fn ran(alloc: Global, line: &str, source: &str) -> Result<(Status, MemSink, MemSink), Fail> {
+    let words = words_of(alloc, line)?;
+    let mut input = MemSource::new(source.as_bytes().to_vec(alloc)?, 3, Vec::new(alloc));
+    let mut out = MemSink::new(alloc, 100, 1, Vec::new(alloc))?;
+    let mut errs = MemSink::new(alloc, 100, 4, Vec::new(alloc))?;
+    let status = run::run(
+        alloc,
+        &words,
+        &mut NoFiles::new(),
+        &mut input,
+        &mut out,
+        &mut errs,
+    );
+    Ok((status, out, errs))
+}
+
 #[test]
 fn rows(rt: HostRuntime) -> Result<(), Fail> {
+    let alloc = rt.alloc();
     for (line, source, status, text, refusal) in [
         (
             "minify",
@@ -40,7 +58,10 @@ fn rows(rt: HostRuntime) -> Result<(), Fail> {
         ("format", "", Status::Usage, "", "luafmt: Usage\n"),
         ("minify -", "", Status::Usage, "", "luafmt: Usage\n"),
     ] {
-        row(&rt, line, source, status, text, refusal)?;
+        let (result, out, errs) = ran(alloc, line, source)?;
+        assert_eq!(rt; result, status, "{line} {source}");
+        assert_eq!(rt; out.written(), text.as_bytes(), "{line} {source}");
+        assert_eq!(rt; errs.written(), refusal.as_bytes(), "{line} {source}");
     }
     Ok(())
 }
@@ -48,6 +69,7 @@ fn rows(rt: HostRuntime) -> Result<(), Fail> {
 // Sources that have no tokens from some place on.
 #[test]
 fn lexical_refusals(rt: HostRuntime) -> Result<(), Fail> {
+    let alloc = rt.alloc();
     for (source, refusal) in [
         ("@", "-:1:1: NoToken\n"),
         ("return 3..2", "-:1:8: BadNumeral\n"),
@@ -57,35 +79,11 @@ fn lexical_refusals(rt: HostRuntime) -> Result<(), Fail> {
         ("--[[", "-:1:1: OpenLong\n"),
         ("return x\r\n\n  [=[ ]] ", "-:3:3: OpenLong\n"),
     ] {
-        row(&rt, "minify", source, Status::Refused, "", refusal)?;
+        let (result, out, errs) = ran(alloc, "minify", source)?;
+        assert_eq!(rt; result, Status::Refused, "{source}");
+        assert_eq!(rt; out.written(), b"".as_slice(), "{source}");
+        assert_eq!(rt; errs.written(), refusal.as_bytes(), "{source}");
     }
-    Ok(())
-}
-
-fn row(
-    rt: &HostRuntime,
-    line: &str,
-    source: &str,
-    status: Status,
-    text: &str,
-    refusal: &str,
-) -> Result<(), Fail> {
-    let alloc = rt.alloc();
-    let words = words_of(alloc, line)?;
-    let mut input = MemSource::new(source.as_bytes().to_vec(alloc)?, 3, Vec::new(alloc));
-    let mut out = MemSink::new(alloc, 100, 1, Vec::new(alloc))?;
-    let mut errs = MemSink::new(alloc, 100, 4, Vec::new(alloc))?;
-    let result = run::run(
-        alloc,
-        &words,
-        &mut NoFiles::new(),
-        &mut input,
-        &mut out,
-        &mut errs,
-    );
-    assert_eq!(rt; result, status, "{line} {source}");
-    assert_eq!(rt; out.written(), text.as_bytes(), "{line} {source}");
-    assert_eq!(rt; errs.written(), refusal.as_bytes(), "{line} {source}");
     Ok(())
 }
 
