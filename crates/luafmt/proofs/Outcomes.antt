@@ -1,5 +1,5 @@
 -- The table of answers, read by its rows.
-use Rattle.std.proofs.Common.{◌≡◌, ◌⊎◌, inl, inr, ℕ, ◌<◌, List, [], ◌++◌, length, codes, Option, Some, None, Err, refl, sym, subst, ap, arith, length-append}
+use Rattle.std.proofs.Common.{◌≡◌, ◌⊎◌, inl, inr, ℕ, ◌<◌, List, [], ◌++◌, length, codes, Option, Some, None, Err, refl, sym, subst, arith, length-append}
 use Rattle.luf_io.specs.Source.{Taken}
 use Rattle.luf_io.specs.Read.{PullsWithin}
 use Rattle.luf_io.specs.declared.read.ReadErr.{ReadErr}
