@@ -149,7 +149,7 @@ open_is_unclosed q rest behind quote (inr (inr line)) closes = quote_is_in_line 
 
 -- ---- the other groups
 
-numeric_kind : (kind : Kind) → is_tried Numeric kind ≡ true → kind ≡ Token Number
+pub numeric_kind : (kind : Kind) → is_tried Numeric kind ≡ true → kind ≡ Token Number
 numeric_kind (Token Number) h = refl
 numeric_kind _ h = absurd (false≢true h)
 

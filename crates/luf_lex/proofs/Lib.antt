@@ -10,3 +10,4 @@ pub mod StringLemmas
 pub mod CommentLemmas
 pub mod FaultLaws
 pub mod NoteLemmas
+pub mod OneCut

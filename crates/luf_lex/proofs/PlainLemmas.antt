@@ -66,7 +66,7 @@ line_end_begins p text lf cr (inr (inl e)) g = false≢true (sym cr ∙ subst (�
 line_end_begins p text lf cr (inr (inr (inl e))) g = false≢true (sym lf ∙ subst (λ t. begins p t ≡ true) e g)
 line_end_begins p text lf cr (inr (inr (inr e))) g = false≢true (sym cr ∙ subst (λ t. begins p t ≡ true) e g)
 
-line_end_is_line : (text : List ℕ) → IsLineEnd text → begins is_line_byte text ≡ true
+pub line_end_is_line : (text : List ℕ) → IsLineEnd text → begins is_line_byte text ≡ true
 line_end_is_line text (inl e) = subst (λ t. begins is_line_byte t ≡ true) (sym e) refl
 line_end_is_line text (inr (inl e)) = subst (λ t. begins is_line_byte t ≡ true) (sym e) refl
 line_end_is_line text (inr (inr (inl e))) = subst (λ t. begins is_line_byte t ≡ true) (sym e) refl

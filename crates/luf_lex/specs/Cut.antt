@@ -1,5 +1,5 @@
 -- The cut of a source into pieces, and its lexical fault.
-use Rattle.std.specs.Prelude.{◌≡◌, ℕ, ◌+◌, ◌-◌, ◌≤◌, ◌==◌, List, [], ◌∷◌, ◌++◌, length, drop, if◌then◌else◌, nat_eq}
+use Rattle.std.specs.Prelude.{◌≡◌, ℕ, ◌+◌, ◌-◌, ◌<◌, ◌≤◌, ◌==◌, List, [], ◌∷◌, ◌++◌, length, drop, if◌then◌else◌, nat_eq}
 use Rattle.std.specs.List.{prefix_len, starts_with}
 use Rattle.luf_lex.specs.Byte.{in_line, begins}
 use Rattle.luf_lex.specs.First.{IsFirst, IsFault}
@@ -40,6 +40,7 @@ pub record IsCut (source : List ℕ) (pieces : List Piece) : Type 0 where
 
 -- the lexical fault of a source: its first place that has no piece, and why
 pub record IsLexFault (source : List ℕ) (at : ℕ) (what : LexWhat) : Type 0 where
+  pub inside : at < length source
   pub pieces : List Piece
   pub before : Cuts source (head_end source) pieces at
   pub fault : IsFault (drop at source) what

@@ -63,7 +63,7 @@ fn push_head(src: &[u8], pieces: &mut Vec<Piece>) -> Result<usize, Memory>
     ensures few { IfOk result (λ end. length pieces.new.items ≤ end) }
 {
     let mark = mark_len(src);
-    let end = mark + hash_len(&src[mark..]);
+    let end = head_len(src);
     if mark != 0 {
         pieces.push(piece(Kind::Mark, 0, mark))?;
     }
@@ -71,6 +71,15 @@ fn push_head(src: &[u8], pieces: &mut Vec<Piece>) -> Result<usize, Memory>
         pieces.push(piece(Kind::HashLine, mark, end))?;
     }
     Ok(end)
+}
+
+/// Where a mark and a `#` line at the start of a source end.
+pub(crate) fn head_len(src: &[u8]) -> usize
+    ensures end { result ≡ head_end src.now }
+    ensures within { result ≤ length src.now }
+{
+    let mark = mark_len(src);
+    mark + hash_len(&src[mark..])
 }
 
 fn mark_len(src: &[u8]) -> usize

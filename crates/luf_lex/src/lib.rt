@@ -8,6 +8,7 @@ mod cutting;
 mod fault;
 mod first;
 mod group;
+mod laws;
 mod note;
 mod numeral;
 mod pieces;
@@ -21,6 +22,7 @@ mod word;
 
 pub use cutting::cut;
 pub use fault::{LexErr, LexWhat};
+pub use laws::{cut_or_fault, lexical_fault, one_cut, one_fault};
 pub use luf_text::Span;
 pub use note::Note;
 pub use pieces::Cut;

@@ -1,8 +1,10 @@
 -- The text of tokens is cut into them again.
 use Rattle.std.proofs.Common.{◌≡◌, ℕ, zero, suc, ◌+◌, ◌-◌, ◌<◌, ◌≤◌, ◌⊎◌, inl, inr, Bool, true, false, cond, eqb, ◌&&◌, ◌||◌, List, [], ◌∷◌, ◌++◌, Option, Some, None, length, length-append, length-drop, append-nil, take, drop, get_or, reverse, refl, sym, ap, ◌∙◌, subst, arith, append_assoc}
-use Rattle.std.specs.List.{list_all, prefix_len}
-use Rattle.std.specs.Prelude.{map, slice_range, slice_get}
+use Rattle.std.specs.List.{list_all, prefix_len, starts_with}
+use Rattle.std.specs.Prelude.{map, slice_range, slice_get, nat_eq}
+use Rattle.std.proofs.lemmas.List.{length-take-le}
 use Rattle.std.specs.Option.{option_to_list}
+use Rattle.std.proofs.lemmas.Option.{slice_get_within}
 use mathlib.Core.List.{reverse_aux}
 use Rattle.std.proofs.Math.Bool.{and-false}
 use Rattle.std.proofs.Math.Seq.{take-append_seam, drop-append_seam, drop-drop}
@@ -22,14 +24,15 @@ use Rattle.luf_lex.specs.declared.token.Tok.TheVariants.{Name, Number, Word, Sig
 use Rattle.luf_lex.specs.declared.token.Sign.{Sign as Mark}
 use Rattle.luf_lex.specs.declared.token.Sign.TheVariants.{Plus, Equal, Assign}
 use Rattle.luf_lex.specs.declared.token.Kind.{Kind}
-use Rattle.luf_lex.specs.declared.token.Kind.TheVariants.{Token, Blank}
+use Rattle.luf_lex.specs.declared.token.Kind.TheVariants.{Token, Blank, HashLine}
+use Rattle.luf_lex.specs.declared.token.Kind.TheVariants.{Mark as ByteMark}
 use Rattle.luf_lex.specs.declared.token.Piece.{Piece}
 use Rattle.luf_lex.proofs.RunLemmas.{begins_weaker, all_weaker}
 use Rattle.luf_lex.proofs.PlainLemmas.{blank_is_no_word, letter_is_word, keyword_letter, word_spelled, run_first, blank_first, sign_first}
 use Rattle.luf_lex.proofs.NumeralLemmas.{numeral_first}
 use Rattle.luf_tree.specs.declared.tree.Chunk.{Chunk}
 use Rattle.luf_tree.specs.Grammar.{IsBlock}
-use Rattle.luf_tree.specs.Small.{IsSmall}
+use Rattle.luf_tree.specs.Small.{IsSmall, HasSmallNumbers}
 use Rattle.luf_tree.proofs.SmallTokens.{IsSmallTok, NoSignFirst, AreSmall, chunk_small}
 use Rattle.luf_work.specs.Minified.{has_hash_line, SameTokens}
 use Rattle.luf_work.specs.Text.{between, text_of}
@@ -102,7 +105,6 @@ ends_all p (b ∷ a) each some =
     let parts = and_parts (p b) (list_all p a) each in
     ends_onto p a (b ∷ []) parts.1 parts.0
 
-
 -- what does not go on from a token: for `=` another one, for any other a letter, a digit or a point
 abbrev pub goes_word : ℕ → Bool
 goes_word b = is_word_byte b || eqb b 46
@@ -122,7 +124,7 @@ letters_before t (b ∷ a) x tried h letter stop =
     let group : group_of (b ∷ (a ++ x)) ≡ Other = group_is b (a ++ x) (letter_quote b letter) signs.0 signs.1 signs.2 false signs.3 in
     let each : list_all is_word_byte (b ∷ a) ≡ true = word_spelled (Token t) (b ∷ a) tried h (letter_is_word b letter) in
     run_first is_word_byte word_spelled (b ∷ (a ++ x)) (Token t) (length (b ∷ a)) group tried (letter_is_word b letter) (sym (run_before is_word_byte (b ∷ a) x each stop))
-      (subst (λ s. Spells (Token t) s) (sym (take-append_seam (b ∷ a) x)) h)
+    (subst (λ s. Spells (Token t) s) (sym (take-append_seam (b ∷ a) x)) h)
 
 -- the scan of digits
 digit_step : (b : ℕ) (y : List ℕ) → is_digit b ≡ true → numeral_tail is_decimal_mark (b ∷ y) ≡ 1 + numeral_tail is_decimal_mark y
@@ -210,7 +212,6 @@ text_begins : (p : ℕ → Bool) (b : List ℕ) (rest : List (List ℕ)) → 0 <
 text_begins p b [] some = refl
 text_begins p b (c ∷ rest) some = ap (begins p) (append_assoc b (between b c) (text_of (c ∷ rest))) ∙ begins_append p b (between b c ++ text_of (c ∷ rest)) some
 
-
 -- a token is letters and digits, or `=`
 abbrev pub IsWord : List ℕ → Type 0
 IsWord a = (begins is_word_byte a ≡ true) × (list_all is_word_byte a ≡ true)
@@ -241,24 +242,24 @@ stops_word_tok Number x other small h = h
 stops_word_tok (Word w) x other small h = h
 stops_word_tok _ x other small h = absurd small
 
+no_equal : (b : List ℕ) → begins is_word_byte b ≡ true → begins is_equal b ≡ false
+no_equal [] h = refl
+no_equal (c ∷ b) h = false_from_ne_true (is_equal c) (word_is_no_equal c h)
+
 -- what follows without a space does not go on from the token before
 stops_next : (t u : Tok) (a b : List ℕ) (rest : List (List ℕ)) → IsSmallTok t → IsSmallTok u → IsSpelledTok t a → IsSpelledTok u b → (t ≡ Sign Assign → u ≡ Sign Assign → ⊥)
-  → (begins is_word_byte (reverse a) && begins is_word_byte b) ≡ false → Stops t (text_of (b ∷ rest))
+    → (begins is_word_byte (reverse a) && begins is_word_byte b) ≡ false → Stops t (text_of (b ∷ rest))
 stops_next t u a b rest small_t small_u ht hu apart none = by_forms (token_form t a small_t ht) (token_form u b small_u hu)
   where
     by_forms : ((t ≡ Sign Assign → ⊥) × IsWord a) ⊎ ((t ≡ Sign Assign) × (a ≡ 61 ∷ [])) → ((u ≡ Sign Assign → ⊥) × IsWord b) ⊎ ((u ≡ Sign Assign) × (b ≡ 61 ∷ [])) → Stops t (text_of (b ∷ rest))
     by_forms (inl f) (inl g) =
-      let ends : begins is_word_byte (reverse a) ≡ true = ends_all is_word_byte a f.2 ht.2 in
-      absurd (false≢true (sym none ∙ and_from _ _ ends g.1))
+        let ends : begins is_word_byte (reverse a) ≡ true = ends_all is_word_byte a f.1.1 ht.2 in
+        absurd (false≢true (sym none ∙ and_from _ _ ends g.1.0))
     by_forms (inl f) (inr g) =
-      stops_word_tok t (text_of (b ∷ rest)) f.0 small_t (text_begins goes_word b rest hu.2 ∙ ap (begins goes_word) g.1)
+        stops_word_tok t (text_of (b ∷ rest)) f.0 small_t (text_begins goes_word b rest hu.2 ∙ ap (begins goes_word) g.1)
     by_forms (inr f) (inl g) =
-      subst (λ (v : Tok). Stops v (text_of (b ∷ rest))) (sym f.0) (text_begins is_equal b rest hu.2 ∙ no_equal b g.1)
+        subst (λ (v : Tok). Stops v (text_of (b ∷ rest))) (sym f.0) (text_begins is_equal b rest hu.2 ∙ no_equal b g.1.0)
     by_forms (inr f) (inr g) = absurd (apart f.0 g.0)
-
-    no_equal : (b : List ℕ) → begins is_word_byte b ≡ true → begins is_equal b ≡ false
-    no_equal [] h = refl
-    no_equal (c ∷ b) h = false_from_ne_true (is_equal c) (word_is_no_equal c h)
 
 -- one space before a letter or a digit is a piece
 space_before : (x : List ℕ) → begins is_word_byte x ≡ true → IsFirst (32 ∷ x) Blank 1
@@ -302,7 +303,6 @@ with_space source at x toks spellings e first rest = record {
   spellings_are = rest.spellings_are;
 }
 
-
 apart_of : (t u : Tok) (toks : List Tok) → AreSmall (t ∷ u ∷ toks) → t ≡ Sign Assign → u ≡ Sign Assign → ⊥
 apart_of t u toks small = small.1
 
@@ -313,7 +313,7 @@ text_cut source at (t ∷ toks) [] within small h e = absurd h
 text_cut source at (t ∷ []) (a ∷ []) within small h e =
     let all : drop at source ≡ a ++ [] = e ∙ sym (append-nil a) in
     with_token source at t a [] [] [] all (first_before t a [] small.0 h.0 (stops_nothing t))
-      (text_cut source (at + length a) [] [] (omega (arith, length-drop at source, ap length e)) tt tt (drop_past source a [] at all))
+    (text_cut source (at + length a) [] [] (omega (arith, length-drop at source, ap length e)) tt tt (drop_past source a [] at all))
 text_cut source at (t ∷ u ∷ toks) (a ∷ []) within small h e = absurd h.1
 text_cut source at (t ∷ []) (a ∷ b ∷ rest) within small h e = absurd h.1
 text_cut source at (t ∷ u ∷ toks) (a ∷ b ∷ rest) within small h e =
@@ -324,14 +324,145 @@ text_cut source at (t ∷ u ∷ toks) (a ∷ b ∷ rest) within small h e =
 
     by_join : (v : Bool) → (begins is_word_byte (reverse a) && begins is_word_byte b) ≡ v → ((at' : ℕ) → at' ≤ length source → drop at' source ≡ text_of (b ∷ rest) → TextCut source at' (u ∷ toks) (b ∷ rest)) → TextCut source at (t ∷ u ∷ toks) (a ∷ b ∷ rest)
     by_join true j later =
-      let word : begins is_word_byte b ≡ true = (and_parts (begins is_word_byte (reverse a)) (begins is_word_byte b) j).1 in
-      let starts : begins is_word_byte (text_of (b ∷ rest)) ≡ true = text_begins is_word_byte b rest h.1.0.2 ∙ word in
-      let all : drop at source ≡ a ++ (32 ∷ text_of (b ∷ rest)) = t_is true j in
-      let behind : drop (at + length a) source ≡ 32 ∷ text_of (b ∷ rest) = drop_past source a (32 ∷ text_of (b ∷ rest)) at all in
-      with_token source at t a (32 ∷ text_of (b ∷ rest)) (u ∷ toks) (b ∷ rest) all (first_before t a (32 ∷ text_of (b ∷ rest)) small.0 h.0 (stops_space t (text_of (b ∷ rest))))
+        let word : begins is_word_byte b ≡ true = (and_parts (begins is_word_byte (reverse a)) (begins is_word_byte b) j).1 in
+        let starts : begins is_word_byte (text_of (b ∷ rest)) ≡ true = text_begins is_word_byte b rest h.1.0.2 ∙ word in
+        let all : drop at source ≡ a ++ (32 ∷ text_of (b ∷ rest)) = t_is true j in
+        let behind : drop (at + length a) source ≡ 32 ∷ text_of (b ∷ rest) = drop_past source a (32 ∷ text_of (b ∷ rest)) at all in
+        with_token source at t a (32 ∷ text_of (b ∷ rest)) (u ∷ toks) (b ∷ rest) all (first_before t a (32 ∷ text_of (b ∷ rest)) small.0 h.0 (stops_space t (text_of (b ∷ rest))))
         (with_space source (at + length a) (text_of (b ∷ rest)) (u ∷ toks) (b ∷ rest) behind (space_before (text_of (b ∷ rest)) starts)
-          (later (at + length a + 1) (omega (arith, length-drop (at + length a) source, ap length behind)) (drop_past source (32 ∷ []) (text_of (b ∷ rest)) (at + length a) behind)))
+        (later (at + length a + 1) (omega (arith, length-drop (at + length a) source, ap length behind)) (drop_past source (32 ∷ []) (text_of (b ∷ rest)) (at + length a) behind)))
     by_join false j later =
-      let all : drop at source ≡ a ++ text_of (b ∷ rest) = t_is false j in
-      with_token source at t a (text_of (b ∷ rest)) (u ∷ toks) (b ∷ rest) all (first_before t a (text_of (b ∷ rest)) small.0 h.0 (stops_next t u a b rest small.0 small.2.0 h.0 h.1.0 small.1 j))
+        let all : drop at source ≡ a ++ text_of (b ∷ rest) = t_is false j in
+        with_token source at t a (text_of (b ∷ rest)) (u ∷ toks) (b ∷ rest) all (first_before t a (text_of (b ∷ rest)) small.0 h.0 (stops_next t u a b rest small.0 small.2.0 h.0 h.1.0 small.1 j))
         (later (at + length a) (omega (arith, length-drop at source, ap length all, length-append a (text_of (b ∷ rest)))) (drop_past source a (text_of (b ∷ rest)) at all))
+
+-- what begins a token of the small form begins no mark and no `#` line
+plain_front : (b : ℕ) (rest : List ℕ) → eqb 239 b ≡ false → eqb b 35 ≡ false → (mark_length (b ∷ rest) ≡ 0) × (hash_length (b ∷ rest) ≡ 0)
+plain_front b rest mark hash = (cond-false _ _ _ (and_left _ _ mark), cond-false _ _ _ hash)
+
+word_no_mark : (b : ℕ) → is_word_byte b ≡ true → (eqb 239 b ≡ false) × (eqb b 35 ≡ false)
+word_no_mark b word = (grind (arith, nat_tests), grind (arith, nat_tests))
+
+begins_no_hash : (t : Tok) (a x : List ℕ) → IsSmallTok t → IsSpelledTok t a → (mark_length (a ++ x) ≡ 0) × (hash_length (a ++ x) ≡ 0)
+begins_no_hash t a x small h = by_form (token_form t a small h)
+  where
+    word_front : (a : List ℕ) → begins is_word_byte a ≡ true → (mark_length (a ++ x) ≡ 0) × (hash_length (a ++ x) ≡ 0)
+    word_front [] word = cc
+    word_front (b ∷ a) word = plain_front b (a ++ x) (word_no_mark b word).0 (word_no_mark b word).1
+
+    by_form : ((t ≡ Sign Assign → ⊥) × IsWord a) ⊎ ((t ≡ Sign Assign) × (a ≡ 61 ∷ [])) → (mark_length (a ++ x) ≡ 0) × (hash_length (a ++ x) ≡ 0)
+    by_form (inl f) = word_front a f.1.0
+    by_form (inr f) = subst (λ (s : List ℕ). (mark_length (s ++ x) ≡ 0) × (hash_length (s ++ x) ≡ 0)) (sym f.1) (refl, refl)
+
+-- so the text of such tokens has no head
+text_plain : (toks : List Tok) (spellings : List (List ℕ)) → AreSmall toks → Spelled toks spellings → (mark_length (text_of spellings) ≡ 0) × (hash_length (text_of spellings) ≡ 0)
+text_plain [] [] small h = (refl, refl)
+text_plain [] (a ∷ spellings) small h = absurd h
+text_plain (t ∷ toks) [] small h = absurd h
+text_plain (t ∷ toks) (a ∷ []) small h = subst (λ (s : List ℕ). (mark_length s ≡ 0) × (hash_length s ≡ 0)) (append-nil a) (begins_no_hash t a [] small.0 h.0)
+text_plain (t ∷ toks) (a ∷ b ∷ rest) small h =
+    subst (λ (s : List ℕ). (mark_length s ≡ 0) × (hash_length s ≡ 0)) (sym (append_assoc a (between a b) (text_of (b ∷ rest)))) (begins_no_hash t a (between a b ++ text_of (b ∷ rest)) small.0 h.0)
+
+-- what stands at the head of a source, where a mark ends at m and a `#` line at n
+abbrev heads : ℕ → ℕ → List Piece
+heads m n =
+    cond (eqb m 0) [] (record { kind = ByteMark; span = record { from = 0; to = m } } ∷ [])
+    ++ cond (eqb n m) [] (record { kind = HashLine; span = record { from = m; to = n } } ∷ [])
+
+no_heads : (m n : ℕ) → m ≡ 0 → n ≡ 0 → heads m n ≡ []
+no_heads m n em en = ap (λ i. heads i n) em ∙ ap (heads 0) en
+
+no_head : (text : List ℕ) → mark_length text ≡ 0 → hash_length text ≡ 0 → (head_end text ≡ 0) × (head_of text ≡ [])
+no_head text mark hash =
+    let behind : hash_length (drop (mark_length text) text) ≡ 0 = ap (λ n. hash_length (drop n text)) mark ∙ hash in
+    let end : head_end text ≡ 0 = omega (arith, mark, behind) in
+    (end, no_heads (mark_length text) (head_end text) mark end)
+
+-- ---- the tokens of a cut are spelled as they are in the source
+
+-- each numeral among them is digits
+abbrev AreDigits : List Tok → List (List ℕ) → Type 0
+AreDigits toks spellings = (n : ℕ) (a : List ℕ) → slice_get toks n ≡ Some Number → slice_get spellings n ≡ Some a → list_all is_digit a ≡ true
+
+abbrev made_of : List ℕ → Piece → List ℕ
+made_of source p = slice_range source p.span.from p.span.to
+
+behind_first : (t : Tok) (toks : List Tok) (a : List ℕ) (spellings : List (List ℕ)) → AreDigits (t ∷ toks) (a ∷ spellings) → AreDigits toks spellings
+behind_first t toks a spellings digits n b tok spelling =
+    let next : n + 1 ≡ suc n = omega arith in
+    digits (n + 1) b (ap (λ i. slice_get (t ∷ toks) i) next ∙ tok) (ap (λ i. slice_get (a ∷ spellings) i) next ∙ spelling)
+
+kind_spelled : (source : List ℕ) (p : Piece) (k : Kind) → p.kind ≡ k → (rest : List Piece) → Spells p.kind (made_of source p) → 0 < length (made_of source p)
+    → (AreDigits (toks_of rest) (spellings_of source rest) → Spelled (toks_of rest) (spellings_of source rest))
+    → AreDigits (option_to_list (tok_of k) ++ toks_of rest) (map (made_of source) (cond (is_token k) (p ∷ tokens_of rest) (tokens_of rest)))
+    → Spelled (option_to_list (tok_of k) ++ toks_of rest) (map (made_of source) (cond (is_token k) (p ∷ tokens_of rest) (tokens_of rest)))
+kind_spelled source p (Token t) e rest h some later digits =
+    ((subst (λ (k : Kind). Spells k (made_of source p)) e h, (λ number. digits 0 (made_of source p) (ap Some number) refl), some), later (behind_first t (toks_of rest) (made_of source p) (spellings_of source rest) digits))
+kind_spelled source p _ e rest h some later digits = later digits
+
+front_some : (source : List ℕ) (p : Piece) (n : ℕ) → 0 < n → n ≤ length (drop p.span.from source) → 0 < length (take n (drop p.span.from source))
+front_some source p n some within = omega (arith, length-take-le n (drop p.span.from source) within)
+
+cut_spelled : (source : List ℕ) (at : ℕ) (pieces : List Piece) (to : ℕ) → Cuts source at pieces to → AreDigits (toks_of pieces) (spellings_of source pieces) → Spelled (toks_of pieces) (spellings_of source pieces)
+cut_spelled source at [] to cut digits = tt
+cut_spelled source at (p ∷ pieces) to cut digits =
+    let first : IsFirst (drop p.span.from source) p.kind (p.span.to - p.span.from) = subst (λ i. IsFirst (drop i source) p.kind (p.span.to - p.span.from)) (sym cut.0) cut.2 in
+    kind_spelled source p p.kind refl pieces first.spelled (front_some source p (p.span.to - p.span.from) first.some first.within)
+    (λ later. cut_spelled source p.span.to pieces to cut.3 later) digits
+
+-- the pieces of the head are no tokens
+head_tokens : (m n : ℕ) (rest : List Piece) → (toks_of (heads m n ++ rest) ≡ toks_of rest) × (tokens_of (heads m n ++ rest) ≡ tokens_of rest)
+head_tokens m n rest = by_tests (eqb m 0) (eqb n m)
+  where
+    by_tests : (v w : Bool) → (toks_of ((cond v [] (record { kind = ByteMark; span = record { from = 0; to = m } } ∷ []) ++ cond w [] (record { kind = HashLine; span = record { from = m; to = n } } ∷ [])) ++ rest) ≡ toks_of rest)
+        × (tokens_of ((cond v [] (record { kind = ByteMark; span = record { from = 0; to = m } } ∷ []) ++ cond w [] (record { kind = HashLine; span = record { from = m; to = n } } ∷ [])) ++ rest) ≡ tokens_of rest)
+    by_tests true true = (refl, refl)
+    by_tests true false = (refl, refl)
+    by_tests false true = (refl, refl)
+    by_tests false false = (refl, refl)
+
+digits_of : (source : List ℕ) (pieces : List Piece) → HasSmallNumbers source pieces 0 (length (toks_of pieces)) → AreDigits (toks_of pieces) (spellings_of source pieces)
+digits_of source pieces small n a tok spelling = (small n (omega arith) (slice_get_within (toks_of pieces) n Number tok) a tok spelling).each
+
+-- The tokens of the whole cut, which a head may stand before, are spelled so.
+pub spelled_in : (source : List ℕ) (pieces : List Piece) → IsCut source pieces → HasSmallNumbers source pieces 0 (length (toks_of pieces)) → Spelled (toks_of pieces) (spellings_of source pieces)
+spelled_in source pieces cut small =
+    let tokens = head_tokens (mark_length source) (head_end source) cut.rest in
+    let toks : toks_of pieces ≡ toks_of cut.rest = ap toks_of cut.head ∙ tokens.0 in
+    let spellings : spellings_of source pieces ≡ spellings_of source cut.rest = ap (spellings_of source) cut.head ∙ ap (map (made_of source)) tokens.1 in
+    let digits : AreDigits (toks_of cut.rest) (spellings_of source cut.rest) = subst (λ ss. AreDigits (toks_of cut.rest) ss) spellings (subst (λ ts. AreDigits ts (spellings_of source pieces)) toks (digits_of source pieces small)) in
+    subst (λ ts. Spelled ts (spellings_of source pieces)) (sym toks) (subst (λ ss. Spelled (toks_of cut.rest) ss) (sym spellings) (cut_spelled source (head_end source) cut.rest (length source) cut.cut digits))
+
+-- ---- the text of a source's tokens, cut again
+
+text_again : (source : List ℕ) (pieces : List Piece) (chunk : Chunk) → IsCut source pieces → IsSmall source pieces chunk → TextCut (text_of (spellings_of source pieces)) 0 (toks_of pieces) (spellings_of source pieces)
+text_again source pieces chunk cut small =
+    text_cut (text_of (spellings_of source pieces)) 0 (toks_of pieces) (spellings_of source pieces) (omega arith) (chunk_small (toks_of pieces) chunk.block.stats small.tree.2) (spelled_in source pieces cut small.numbers) refl
+
+-- and so the same tree
+same_small : (source text : List ℕ) (pieces others : List Piece) (chunk : Chunk) → toks_of others ≡ toks_of pieces → spellings_of text others ≡ spellings_of source pieces → IsSmall source pieces chunk → IsSmall text others chunk
+same_small source text pieces others chunk toks spellings h = record {
+  tree = subst (λ (ts : List Tok). IsBlock ts 0 (length ts) chunk.block) (sym toks) h.tree;
+  numbers = λ n from to spelling number is.
+      h.numbers n from (omega (arith, ap length toks)) spelling (ap (λ (ts : List Tok). slice_get ts n) (sym toks) ∙ number) (ap (λ (ss : List (List ℕ)). slice_get ss n) (sym spellings) ∙ is);
+}
+
+pub same_tokens : (source : List ℕ) (pieces : List Piece) (chunk : Chunk) → IsCut source pieces → has_hash_line pieces ≡ false → IsSmall source pieces chunk → SameTokens source (text_of (spellings_of source pieces))
+same_tokens source pieces chunk cut plain small =
+    let text : List ℕ = text_of (spellings_of source pieces) in
+    let again = text_again source pieces chunk cut small in
+    let bare = text_plain (toks_of pieces) (spellings_of source pieces) (chunk_small (toks_of pieces) chunk.block.stats small.tree.2) (spelled_in source pieces cut small.numbers) in
+    let head = no_head text bare.0 bare.1 in
+    record {
+      pieces = pieces;
+      others = again.pieces;
+      chunk = chunk;
+      is = record { cut = cut; plain = plain; small = small };
+      same = record {
+        cut = record { rest = again.pieces; head = ap (λ front. front ++ again.pieces) (sym head.1); cut = subst (λ i. Cuts text i again.pieces (length text)) (sym head.0) again.cut };
+        plain = again.plain;
+        small = same_small source text pieces again.pieces chunk again.toks_are again.spellings_are small;
+      };
+      toks = again.toks_are;
+      spellings = again.spellings_are;
+    }

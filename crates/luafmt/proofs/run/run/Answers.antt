@@ -1,0 +1,13 @@
+use Rattle.std.proofs.Common.{inl, ap, ◌∙◌}
+use Rattle.luafmt.specs.Outcome.{Outcome}
+use Rattle.luafmt.proofs.Outcomes.{usage_only, done_outcome}
+use Rattle.luafmt.proofs.run.run.Goals as goal
+
+pub returns-in-Ok-write-clause-no_command : goal.returns-in-Ok-write-clause-no_command
+returns-in-Ok-write-clause-no_command g c = λ other.
+    let o = c.in-Ok.ensures.gives in
+    inl (ap (λ (w : Outcome). w.status) c.answer.view_is ∙ usage_only _ o.contents _ o.gives other)
+
+pub returns-in-Ok-write-clause-complete : goal.returns-in-Ok-write-clause-complete
+returns-in-Ok-write-clause-complete g c = λ contents told accepted m _ _ _.
+    inl (ap (λ (w : Outcome). w.status) c.answer.view_is ∙ done_outcome _ _ _ contents c.in-Ok.ensures.gives told accepted m)

@@ -1,0 +1,52 @@
+-- What a run comes to, by its words and the contents of its input. Our own rule.
+use Rattle.std.specs.Prelude.{◌≡◌, ℕ, ◌<◌, ◌≤◌, List, [], ◌∷◌, ◌++◌, length, codes, Option}
+use Rattle.std.specs.Option.{ForSome}
+use Rattle.luf_work.specs.Minified.{IsAccepted, IsMinified}
+use Rattle.luafmt.specs.declared.status.Status.{Status}
+use Rattle.luafmt.specs.declared.status.Status.TheVariants.{Done, Differs, Usage, Refused, ReadFault, WriteFault, NoMemory, Config}
+
+-- the status, and what goes to out and to errs
+pub record Outcome : Type 0 where
+  pub status : Status
+  pub out : List ℕ
+  pub errs : List ℕ
+
+-- the words are the one word `minify`
+abbrev pub IsMinify : List (List ℕ) → Type 0
+IsMinify words = words ≡ codes "minify" ∷ []
+
+-- a line of errs, ended by LF
+abbrev pub line_of : List ℕ → List ℕ
+line_of text = text ++ 10 ∷ []
+
+-- The table of answers. A source has at most 4 MiB, and it is either accepted or refused.
+pub data Gives : List (List ℕ) → List ℕ → Outcome → Type 0 where
+  usage : (words : List (List ℕ)) (contents : List ℕ) → (IsMinify words → ⊥)
+      → Gives words contents (record { status = Usage; out = []; errs = line_of (codes "luafmt: Usage") })
+  too_large : (words : List (List ℕ)) (contents : List ℕ) → IsMinify words → 4194304 < length contents
+      → Gives words contents (record { status = Refused; out = []; errs = line_of (codes "-: TooLarge") })
+  not_yet : (words : List (List ℕ)) (contents : List ℕ) → IsMinify words → length contents ≤ 4194304 → (IsAccepted contents → ⊥)
+      → Gives words contents (record { status = Refused; out = []; errs = line_of (codes "-: NotYet") })
+  done : (words : List (List ℕ)) (contents text : List ℕ) → IsMinify words → length contents ≤ 4194304 → IsMinified contents text
+      → Gives words contents (record { status = Done; out = text; errs = [] })
+
+-- the contents of an input: those that it tells, where it tells any
+abbrev pub AreContents : Option (List ℕ) → List ℕ → Type 0
+AreContents left contents = ForSome left (λ told. told ≡ contents)
+
+-- the outcome of a run with these words, over an input which tells this, or tells nothing
+pub record IsOutcome (words : List (List ℕ)) (left : Option (List ℕ)) (outcome : Outcome) : Type 0 where
+  pub contents : List ℕ
+  pub told : AreContents left contents
+  pub gives : Gives words contents outcome
+
+-- nothing cut the run short: no fault, and no want of memory
+abbrev pub RanThrough : Status → Type 0
+RanThrough Done = Unit {0}
+RanThrough Differs = Unit {0}
+RanThrough Usage = Unit {0}
+RanThrough Refused = Unit {0}
+RanThrough ReadFault = ⊥
+RanThrough WriteFault = ⊥
+RanThrough NoMemory = ⊥
+RanThrough Config = Unit {0}

@@ -1,0 +1,115 @@
+//! What a run is to write, before any of it is written.
+ghost use Rattle.std.specs.Prelude.{◌≡◌, ◌↔◌, ◌++◌, ℕ, List, [], length, map, codes, string_bytes, IfOk, OnOk, OnErr, IsErrOf, IsTrue};
+ghost use Rattle.luf_io.specs.Count.{Rose};
+ghost use Rattle.luf_work.specs.Minified.{SameTokens};
+ghost use Rattle.luafmt.specs.Outcome.{Outcome, IsMinify, Gives, AreContents, IsOutcome};
+
+use crate::status::Status;
+use luf_io::{ReadErr, Source, read_all};
+use luf_memory::Memory;
+use luf_work::{Refusal, minify_bytes};
+use std::alloc::Global;
+use std::marker::Model;
+
+// The most bytes that a source may have.
+const MOST: usize = 4194304;
+
+// The status that a run is to have, and what is to go to `out` and to `errs`.
+#[derive(Drop)]
+pub(crate) struct Answer {
+    pub(crate) status: Status,
+    pub(crate) out: Vec<u8>,
+    pub(crate) errs: &'static [u8],
+}
+
+impl Model for Answer {
+    ghost use Rattle.luafmt.specs.Outcome.{Outcome};
+
+    ghost Value = { Outcome };
+
+    ghost view = { λ a. record { status = a.status; out = a.out.items; errs = a.errs.now } };
+}
+
+// Why a run has no answer.
+pub(crate) enum Halt {
+    ReadFault,
+    NoMemory,
+}
+
+// The answer to the words. For `minify` the input is read.
+pub(crate) fn prepare<I: Source>(
+    alloc: Global,
+    words: &[String],
+    input: &mut I,
+) -> Result<Answer, Halt>
+    ensures gives { IfOk result (IsOutcome (map string_bytes words.now) (I.left input.old)) }
+    ensures same_tokens { IfOk result (λ a. a.status ≡ Status.Done → (contents : List ℕ)
+        × AreContents (I.left input.old) contents × SameTokens contents a.out) }
+    ensures calm { OnOk result (I.faults input.new ≡ I.faults input.old) }
+
+    // Where the words are not `minify` nothing is read, and so nothing fails.
+    ensures err { OnErr result (IsMinify (map string_bytes words.now)) }
+    ensures unread { ¬ IsMinify (map string_bytes words.now) → input.new ≡ input.old }
+    ensures read_fault { IsErrOf result Halt.ReadFault
+        → Rose (I.faults input.old) (I.faults input.new) }
+    ensures no_memory { IsErrOf result Halt.NoMemory → I.faults input.new ≡ I.faults input.old }
+{
+    if !is_minify(words) {
+        return Ok(refusal(alloc, Status::Usage, b"luafmt: Usage\n"));
+    }
+    let mut source = Vec::new(alloc);
+    match read_all(alloc, input, MOST, &mut source) {
+        Ok(()) => match minified(alloc, &source) {
+            Ok(answer) => Ok(answer),
+            Err(Memory) => Err(Halt::NoMemory),
+        },
+        Err(ReadErr::TooLarge) => Ok(too_large(alloc)),
+        Err(ReadErr::Fault) => Err(Halt::ReadFault),
+        Err(ReadErr::Memory) => Err(Halt::NoMemory),
+    }
+}
+
+fn is_minify(words: &[String]) -> bool
+    ensures { IsTrue result ↔ IsMinify (map string_bytes words.now) }
+{
+    match words {
+        [word] => word.as_str() == "minify",
+        _ => false,
+    }
+}
+
+// The answer of `minify` to a source.
+fn minified(alloc: Global, source: &[u8]) -> Result<Answer, Memory>
+    ensures gives { IfOk result (λ a.
+        (words : List (List ℕ)) → IsMinify words → Gives words source.now a) }
+    ensures same_tokens { IfOk result (λ a. a.status ≡ Status.Done → SameTokens source.now a.out) }
+{
+    let mut out = Vec::new(alloc);
+    match minify_bytes(alloc, source, &mut out) {
+        Ok(()) => Ok(Answer {
+            status: Status::Done,
+            out,
+            errs: b"",
+        }),
+        Err(Refusal::TooLarge) => Ok(too_large(alloc)),
+        Err(Refusal::NotYet) => Ok(refusal(alloc, Status::Refused, b"-: NotYet\n")),
+        Err(Refusal::Memory) => Err(Memory),
+    }
+}
+
+fn too_large(alloc: Global) -> Answer
+    ensures { result ≡ record { status = Status.Refused; out = []; errs = codes "-: TooLarge\n" } }
+{
+    refusal(alloc, Status::Refused, b"-: TooLarge\n")
+}
+
+// A line for `errs` alone.
+fn refusal(alloc: Global, status: Status, line: &'static [u8]) -> Answer
+    ensures { result ≡ record { status = status; out = []; errs = line.now } }
+{
+    Answer {
+        status,
+        out: Vec::new(alloc),
+        errs: line,
+    }
+}

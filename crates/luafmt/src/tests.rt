@@ -1,0 +1,138 @@
+use super::*;
+use luf_io::{Failed, MemSink, MemSource, Sink, Source};
+use std::alloc::Global;
+use std::test::Fail;
+
+fn words_of(alloc: Global, line: &str) -> Result<Vec<String>, AllocError> {
+    let mut words = Vec::new(alloc);
+    for word in line.split_whitespace() {
+        words.push(String::from_str(alloc, word)?)?;
+    }
+    Ok(words)
+}
+
+// So many spaces. The number is a parameter so that no proof writes out the list.
+fn spaces(alloc: Global, len: usize) -> Result<Vec<u8>, AllocError> {
+    vec![in alloc; b' '; len]
+}
+
+#[test]
+fn rows(rt: HostRuntime) -> Result<(), Fail> {
+    let alloc = rt.alloc();
+    for (line, source, status, text, refusal) in [
+        (
+            "minify",
+            "local  x = 1\nreturn x\n",
+            Status::Done,
+            "local x=1 return x",
+            "",
+        ),
+        ("minify", "", Status::Done, "", ""),
+        ("minify", "x=1", Status::Refused, "", "-: NotYet\n"),
+        (
+            "minify",
+            "local x=1return x",
+            Status::Refused,
+            "",
+            "-: NotYet\n",
+        ),
+        ("", "", Status::Usage, "", "luafmt: Usage\n"),
+        ("format", "", Status::Usage, "", "luafmt: Usage\n"),
+        ("minify -", "", Status::Usage, "", "luafmt: Usage\n"),
+    ] {
+        let words = words_of(alloc, line)?;
+        let mut input = MemSource::new(source.as_bytes().to_vec(alloc)?, 3, Vec::new(alloc));
+        let mut out = MemSink::new(alloc, 100, 1, Vec::new(alloc))?;
+        let mut errs = MemSink::new(alloc, 100, 4, Vec::new(alloc))?;
+        let result = run::run(
+            alloc,
+            &words,
+            &mut NoFiles::new(),
+            &mut input,
+            &mut out,
+            &mut errs,
+        );
+        assert_eq!(rt; result, status, "{line} {source}");
+        assert_eq!(rt; out.written(), text.as_bytes(), "{line} {source}");
+        assert_eq!(rt; errs.written(), refusal.as_bytes(), "{line} {source}");
+    }
+    Ok(())
+}
+
+#[test]
+fn a_source_that_is_too_large(rt: HostRuntime) -> Result<(), Fail> {
+    let alloc = rt.alloc();
+    let words = words_of(alloc, "minify")?;
+    for (len, status, refusal) in [
+        (4194304, Status::Done, ""),
+        (4194305, Status::Refused, "-: TooLarge\n"),
+    ] {
+        let mut input = MemSource::new(spaces(alloc, len)?, 100000, Vec::new(alloc));
+        let mut out = MemSink::new(alloc, 0, 1, Vec::new(alloc))?;
+        let mut errs = MemSink::new(alloc, 100, 100, Vec::new(alloc))?;
+        let result = run::run(
+            alloc,
+            &words,
+            &mut NoFiles::new(),
+            &mut input,
+            &mut out,
+            &mut errs,
+        );
+        assert_eq!(rt; result, status, "{len}");
+        assert_eq!(rt; errs.written(), refusal.as_bytes(), "{len}");
+    }
+    Ok(())
+}
+
+// Each object fails in turn: `input` at its second pull, `out` where its room ends, `errs` at once.
+#[test]
+fn faults(rt: HostRuntime) -> Result<(), Fail> {
+    let alloc = rt.alloc();
+    for (line, pull, room, status, text) in [
+        ("minify", 2, 100, Status::ReadFault, ""),
+        ("minify", 100, 7, Status::WriteFault, "local a"),
+        ("minify", 100, 9, Status::Done, "local a=1"),
+        ("", 100, 100, Status::WriteFault, ""),
+    ] {
+        let words = words_of(alloc, line)?;
+        let mut input = MemSource::new(b"local a = 1".to_vec(alloc)?, 1, vec![in alloc; pull]?);
+        let mut out = MemSink::new(alloc, room, 1, Vec::new(alloc))?;
+        let mut errs = MemSink::new(alloc, 0, 1, Vec::new(alloc))?;
+        let result = run::run(
+            alloc,
+            &words,
+            &mut NoFiles::new(),
+            &mut input,
+            &mut out,
+            &mut errs,
+        );
+        assert_eq!(rt; result, status, "{line} {pull} {room}");
+        assert_eq!(rt; out.written(), text.as_bytes(), "{line} {pull} {room}");
+    }
+    Ok(())
+}
+
+// A writer that takes nothing has failed.
+#[test]
+fn streams_in_memory(rt: HostRuntime) -> Result<(), Fail> {
+    let mut into = [0; 8];
+    let mut source = StreamSource::new(b"local".as_slice());
+    assert_eq!(rt; source.pull(&mut into), Ok(5));
+    assert_eq!(rt; &into[..5], b"local".as_slice());
+    assert_eq!(rt; source.pull(&mut into), Ok(0));
+
+    let mut room = [0; 3];
+    let mut sink = StreamSink::new(room.as_mut_slice());
+    assert_eq!(rt; sink.put(b"local"), Ok(3));
+    assert_eq!(rt; sink.put(b"al"), Err(Failed));
+    assert_eq!(rt; sink.put(b""), Ok(0));
+    Ok(())
+}
+
+// The tests' input is empty.
+#[test]
+fn standard_streams(rt: HostRuntime) {
+    assert_eq!(rt; StreamSource::new(rt.stdin()).pull(&mut [0; 8]), Ok(0));
+    assert_eq!(rt; StreamSink::new(rt.stdout()).put(b""), Ok(0));
+    assert_eq!(rt; StreamSink::new(rt.stderr()).put(b""), Ok(0));
+}
