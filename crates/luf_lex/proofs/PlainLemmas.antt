@@ -1,17 +1,16 @@
 -- The first piece of a text where neither a string, a comment nor a numeral begins.
-use Rattle.std.proofs.Common.{◌≡◌, ℕ, zero, suc, ◌+◌, ◌<◌, ◌≤◌, ◌⊎◌, Bool, true, false, cond, ◌&&◌, ◌||◌, List, [], ◌∷◌, length, take, get_or, eqb, refl, sym, ap, ◌∙◌, subst, arith, inl, inr}
+use Rattle.std.proofs.Common.{◌≡◌, ℕ, ◌<◌, ◌≤◌, Bool, true, false, List, length, take, refl, sym, ap, ◌∙◌, subst, arith, inl, inr}
 use Rattle.std.specs.List.{list_all, prefix_len}
-use Rattle.std.proofs.lemmas.Bool.{or_left, or_right, or_from, ne_eqb, false≢true, eqb-true}
+use Rattle.std.proofs.lemmas.Bool.{or_left, false≢true}
 use Rattle.std.proofs.lemmas.Bool.Decides.{nat_tests}
 use Rattle.std.proofs.lemmas.List.{length-take, length-take-le}
 use Rattle.std.proofs.lemmas.List.Sums.{prefix_len-le-length}
-use Rattle.luf_num.specs.Digit.{is_digit}
 use Rattle.luf_str.specs.Bytes.{is_line_byte}
 use Rattle.luf_lex.specs.Byte.{is_letter, is_word_byte, is_blank, begins}
 use Rattle.luf_lex.specs.Word.{word_spelling}
 use Rattle.luf_lex.specs.Sign.{sign_spelling, Begins}
-use Rattle.luf_lex.specs.Spelling.{Spells, IsLineEnd, IsRun}
-use Rattle.luf_lex.specs.First.{IsFirst, HasNone, is_tried, group_of, Other, Numeric}
+use Rattle.luf_lex.specs.Spelling.{Spells, IsLineEnd}
+use Rattle.luf_lex.specs.First.{IsFirst, HasNone, is_tried, group_of, Other}
 use Rattle.luf_lex.specs.declared.token.Word.{Word as Keyword}
 use Rattle.luf_lex.specs.declared.token.Word.TheVariants.{And}
 use Rattle.luf_lex.specs.declared.token.Sign.{Sign as Mark}
@@ -19,7 +18,7 @@ use Rattle.luf_lex.specs.declared.token.Sign.TheVariants.{Plus}
 use Rattle.luf_lex.specs.declared.token.Tok.TheVariants.{Name, Word, Sign}
 use Rattle.luf_lex.specs.declared.token.Kind.{Kind}
 use Rattle.luf_lex.specs.declared.token.Kind.TheVariants.{Token, Blank, LineEnd}
-use Rattle.luf_lex.proofs.RunLemmas.{passing_front, front_passes, begins_take, all_weaker, begins_weaker, begins_apart, run_some, begins_with}
+use Rattle.luf_lex.proofs.RunLemmas.{passing_front, front_passes, begins_take, all_weaker, begins_weaker, begins_apart, run_some}
 
 -- bytes of one class are not of another
 pub blank_is_no_word : (b : ℕ) → is_blank b ≡ true → is_word_byte b ≡ true → ⊥

@@ -1,13 +1,11 @@
 -- Strings at the front of a text.
-use Rattle.std.proofs.Common.{◌≡◌, ◌≢◌, ℕ, zero, suc, ◌+◌, ◌-◌, ◌<◌, ◌≤◌, true, false, List, [], ◌∷◌, ◌++◌, length, get_or, take, drop, refl, sym, ap, subst, ◌∙◌, arith, inl, inr, append_assoc, length-append, length-drop}
+use Rattle.std.proofs.Common.{◌≡◌, ◌≢◌, ℕ, zero, suc, ◌+◌, ◌-◌, ◌<◌, ◌≤◌, true, List, [], ◌∷◌, ◌++◌, length, get_or, take, drop, refl, sym, ap, subst, ◌∙◌, arith, inl, inr, append_assoc, length-append, length-drop}
 use Rattle.std.specs.List.{prefix_len}
-use Rattle.std.proofs.lemmas.Bool.Decides.{nat_tests}
 use Rattle.std.proofs.lemmas.Grind.{flat_map-append}
-use Rattle.std.proofs.lemmas.List.{append-nil, take-append-drop, take_at, take_rest, drop_more, drop-drop, get_or-drop}
+use Rattle.std.proofs.lemmas.List.{append-nil, take-append-drop, take_at, take_rest, drop-drop, get_or-drop}
 use Rattle.std.proofs.lemmas.List.Sums.{prefix_len_passes, prefix_len-le-length}
-use Rattle.luf_str.specs.Bytes.{is_digit, is_quote, is_plain, is_space}
-use Rattle.luf_str.specs.Escape.{IsEscape, NoEscape}
-use Rattle.luf_str.specs.Escape as escape_rule
+use Rattle.luf_str.specs.Bytes.{is_quote, is_plain}
+use Rattle.luf_str.specs.Escape.{NoEscape}
 use Rattle.luf_str.specs.Spelling.{IsLongSpelling, IsSpelling}
 use Rattle.luf_str.specs.Value.{IsPart, Part, spelling_of, AreParts}
 use Rattle.luf_str.specs.Value as part_rule

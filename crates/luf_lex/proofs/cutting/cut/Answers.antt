@@ -1,5 +1,5 @@
-use Rattle.std.proofs.Common.{◌≡◌, ◌≤◌, ◌+◌, ◌++◌, ◌∷◌, [], length, length-append, length-drop, drop, sym, ap, ◌∙◌, subst, arith, append_assoc}
-use Rattle.luf_lex.specs.Cut.{Cuts, head_of, head_end}
+use Rattle.std.proofs.Common.{◌≡◌, ◌++◌, ◌∷◌, [], length, length-append, length-drop, drop, sym, ap, ◌∙◌, subst, arith, append_assoc}
+use Rattle.luf_lex.specs.Cut.{head_of, head_end}
 use Rattle.luf_lex.specs.First.{IsFirst}
 use Rattle.luf_lex.specs.declared.token.Piece.{Piece}
 use Rattle.luf_lex.proofs.RunLemmas.{tail_is}

@@ -1,6 +1,4 @@
-use Rattle.std.proofs.Common.{ap, ◌∙◌}
 use Rattle.luf_lex.specs.First.{no_token}
-use Rattle.luf_lex.specs.Group.{group_named}
 use Rattle.luf_lex.proofs.first.first.Goals as goal
 
 pub returns-in-None : goal.returns-in-None

@@ -1,5 +1,4 @@
-use Rattle.std.proofs.Common.{◌≡◌, ◌≤◌, ◌+◌, ◌-◌, length, length-drop, drop, sym, ap, ◌∙◌, arith}
-use Rattle.luf_lex.specs.Byte.{is_letter, begins}
+use Rattle.std.proofs.Common.{◌≡◌, ◌+◌, ◌-◌, length, length-drop, drop, sym, ap, ◌∙◌, arith}
 use Rattle.luf_lex.specs.Scan.{mark_of, step_of}
 use Rattle.luf_lex.proofs.RunLemmas.{tail_is}
 use Rattle.luf_lex.proofs.NumeralLemmas.{scan_on, scan_end, one_letter}
