@@ -4,6 +4,8 @@
 mod number;
 mod parse_small;
 mod tree;
+#[cfg(test)]
+mod tests;
 
 pub use parse_small::{SmallErr, small};
 pub use tree::{Block, Chunk, Declared, Expr, ExprKind, Stat, StatKind};
