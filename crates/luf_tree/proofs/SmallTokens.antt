@@ -70,8 +70,8 @@ stats_small _ _ _ _ (more_stats toks i j k s rest a b) n from to =
     by_place (inl e) = at_place toks n i e (no_sign toks i (Word Local) (local_parts toks i j s a).first tt (λ e. cc))
     by_place (inr (inl e)) = at_place toks n (i + 1) e (no_sign toks (i + 1) Name (local_parts toks i j s a).name tt (λ e. cc))
     by_place (inr (inr (inl e))) =
-      let one : OneToken toks (i + 2 + 1) = subst (λ m. OneToken toks m) (omega arith) (expr_one toks (i + 3) j (local_parts toks i j s a).what (local_parts toks i j s a).value) in
-      at_place toks n (i + 2) e (sign_small toks (i + 2) (local_parts toks i j s a).sign one)
+        let one : OneToken toks (i + 2 + 1) = subst (λ m. OneToken toks m) (omega arith) (expr_one toks (i + 3) j (local_parts toks i j s a).what (local_parts toks i j s a).value) in
+        at_place toks n (i + 2) e (sign_small toks (i + 2) (local_parts toks i j s a).sign one)
     by_place (inr (inr (inr e))) = at_place toks n (i + 3) e (one_small toks (i + 3) (expr_one toks (i + 3) j (local_parts toks i j s a).what (local_parts toks i j s a).value))
 
     by_side : (n < i + 4) ⊎ (i + 4 ≤ n) → (j ≤ n → IsSmallAt toks n) → IsSmallAt toks n

@@ -3,9 +3,9 @@
 
 mod number;
 mod parse_small;
-mod tree;
 #[cfg(test)]
 mod tests;
+mod tree;
 
 pub use parse_small::{SmallErr, small};
 pub use tree::{Block, Chunk, Declared, Expr, ExprKind, Stat, StatKind};

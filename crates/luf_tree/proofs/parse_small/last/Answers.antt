@@ -13,5 +13,5 @@ returns-in_default-clause-none c =
     let toks = toks_of c.args.cut.now in
     let at = c.args.at in
     λ stat h numbers.
-      let parts = return_parts toks at (length toks) stat h in
-      c.in_default.ensures.none (length toks) parts.what parts.value (numbers (at + 1) (omega arith) (omega (arith, c.if-tokens-at.false, c.tokens.ensures.count)))
+    let parts = return_parts toks at (length toks) stat h in
+    c.in_default.ensures.none (length toks) parts.what parts.value (numbers (at + 1) (omega arith) (omega (arith, c.if-tokens-at.false, c.tokens.ensures.count)))

@@ -15,5 +15,5 @@ returns-in_default-clause-none c =
     let toks = toks_of c.args.cut.now in
     let at = c.args.at in
     λ j stat h numbers.
-      let parts = local_parts toks at j stat h in
-      c.in_default.ensures.none j parts.what parts.value (numbers (at + 3) (omega arith) (omega (arith, stat_end toks at j stat h)))
+    let parts = local_parts toks at j stat h in
+    c.in_default.ensures.none j parts.what parts.value (numbers (at + 3) (omega arith) (omega (arith, stat_end toks at j stat h)))
