@@ -4,6 +4,8 @@
 mod minify;
 mod refusal;
 mod text;
+#[cfg(test)]
+mod tests;
 
 pub use minify::minify_bytes;
 pub use refusal::Refusal;
