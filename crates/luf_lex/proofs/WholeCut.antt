@@ -23,7 +23,7 @@ cuts_joined source at (p ∷ pieces) to cut =
 
 -- so are the head and what is left behind it
 head_joined : (source : List ℕ) (m n : ℕ) → m ≤ n → (v w : Bool) → eqb m 0 ≡ v → eqb n m ≡ w
-  → flat_map (bytes_of source) (cond v [] (record { kind = Mark; span = record { from = 0; to = m } } ∷ []) ++ cond w [] (record { kind = HashLine; span = record { from = m; to = n } } ∷ [])) ++ drop n source ≡ source
+    → flat_map (bytes_of source) (cond v [] (record { kind = Mark; span = record { from = 0; to = m } } ∷ []) ++ cond w [] (record { kind = HashLine; span = record { from = m; to = n } } ∷ [])) ++ drop n source ≡ source
 head_joined source m n le true true none same = ap (λ i. drop i source) (eqb-true n m same ∙ eqb-true m 0 none)
 head_joined source m n le true false none other =
     ap (λ t. t ++ drop n source) (append-nil (slice_range source m n)) ∙ sym (drop_split source m n le) ∙ ap (λ i. drop i source) (eqb-true m 0 none)
@@ -40,7 +40,7 @@ joined source pieces cut =
     let front : List ℕ = flat_map (bytes_of source) (head_of source) in
     let rest : List ℕ = flat_map (bytes_of source) cut.rest in
     let behind : rest ≡ drop (head_end source) source =
-      sym (append-nil rest) ∙ ap (λ t. rest ++ t) (sym (drop-length source)) ∙ cuts_joined source (head_end source) cut.rest (length source) cut.cut in
+    sym (append-nil rest) ∙ ap (λ t. rest ++ t) (sym (drop-length source)) ∙ cuts_joined source (head_end source) cut.rest (length source) cut.cut in
     ap (flat_map (bytes_of source)) cut.head
     ∙ flat_map-append (bytes_of source) (head_of source) cut.rest
     ∙ ap (λ t. front ++ t) behind
