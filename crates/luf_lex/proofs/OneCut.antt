@@ -1,11 +1,11 @@
 -- A source has at most one cut and at most one fault, and not both.
-use Rattle.std.proofs.Common.{◌≡◌, ℕ, ◌-◌, ◌<◌, ◌≤◌, Bool, true, false, cond, eqb, ◌&&◌, List, [], ◌∷◌, ◌++◌, length, take, drop, length-drop, refl, sym, ap, ◌∙◌, subst, arith}
+use Rattle.std.proofs.Common.{◌≡◌, ℕ, ◌-◌, Bool, true, false, cond, eqb, ◌&&◌, List, [], ◌∷◌, ◌++◌, length, take, drop, length-drop, refl, sym, ap, ◌∙◌, subst, arith}
 use Rattle.std.proofs.lemmas.Bool.{false≢true}
 use Rattle.luf_str.specs.Bytes.{is_line_byte}
 use Rattle.luf_lex.specs.Byte.{is_letter, is_word_byte, is_blank, begins}
 use Rattle.luf_lex.specs.Word.{word_spelling}
 use Rattle.luf_lex.specs.Sign.{sign_spelling}
-use Rattle.luf_lex.specs.Spelling.{Spells, IsName, IsLineEnd}
+use Rattle.luf_lex.specs.Spelling.{Spells, IsName}
 use Rattle.luf_lex.specs.First.{Group, Quoted, Bracketed, Commented, Numeric, Other, group_of, is_tried, IsFirst, IsFault, HasNone}
 use Rattle.luf_lex.specs.Cut.{Cuts, IsCut, IsLexFault, head_of, head_end}
 use Rattle.luf_lex.specs.declared.fault.LexWhat.{LexWhat}
@@ -13,7 +13,7 @@ use Rattle.luf_lex.specs.declared.token.Word.{Word as Keyword}
 use Rattle.luf_lex.specs.declared.token.Word.TheVariants.{And, Break, Do, Else, ElseIf, End, False, For, Function, Goto, If, In, Local, Nil, Not, Or, Repeat, Return, Then, True, Until, While}
 use Rattle.luf_lex.specs.declared.token.Sign.{Sign as Mark}
 use Rattle.luf_lex.specs.declared.token.Sign.TheVariants.{Plus, Minus, Star, Slash, Percent, Caret, Hash, Amp, Tilde, Bar, ShiftLeft, ShiftRight, SlashSlash, Equal, NotEqual, LessEqual, GreaterEqual, Less, Greater, Assign, LeftParen, RightParen, LeftBrace, RightBrace, LeftBracket, RightBracket, DoubleColon, Semicolon, Colon, Comma, Dot, DotDot, Dots}
-use Rattle.luf_lex.specs.declared.token.Tok.TheVariants.{Name, Number, Word, Sign}
+use Rattle.luf_lex.specs.declared.token.Tok.TheVariants.{Name, Word, Sign}
 use Rattle.luf_lex.specs.declared.token.Kind.{Kind}
 use Rattle.luf_lex.specs.declared.token.Kind.TheVariants.{Token, Blank, LineEnd}
 use Rattle.luf_lex.specs.declared.token.Piece.{Piece}

@@ -1,19 +1,18 @@
 -- The text of tokens is cut into them again.
-use Rattle.std.proofs.Common.{◌≡◌, ℕ, zero, suc, ◌+◌, ◌-◌, ◌<◌, ◌≤◌, ◌⊎◌, inl, inr, Bool, true, false, cond, eqb, ◌&&◌, ◌||◌, List, [], ◌∷◌, ◌++◌, Option, Some, None, length, length-append, length-drop, append-nil, take, drop, get_or, reverse, refl, sym, ap, ◌∙◌, subst, arith, append_assoc}
-use Rattle.std.specs.List.{list_all, prefix_len, starts_with}
-use Rattle.std.specs.Prelude.{map, slice_range, slice_get, nat_eq}
+use Rattle.std.proofs.Common.{◌≡◌, ℕ, suc, ◌+◌, ◌-◌, ◌<◌, ◌≤◌, ◌⊎◌, inl, inr, Bool, true, false, cond, eqb, ◌&&◌, ◌||◌, List, [], ◌∷◌, ◌++◌, Some, length, length-append, length-drop, append-nil, take, drop, get_or, reverse, refl, sym, ap, ◌∙◌, subst, arith, append_assoc}
+use Rattle.std.specs.List.{list_all, prefix_len}
+use Rattle.std.specs.Prelude.{map, slice_range, slice_get}
 use Rattle.std.proofs.lemmas.List.{length-take-le}
 use Rattle.std.specs.Option.{option_to_list}
 use Rattle.std.proofs.lemmas.Option.{slice_get_within}
 use mathlib.Core.List.{reverse_aux}
-use Rattle.std.proofs.Math.Bool.{and-false}
 use Rattle.std.proofs.Math.Seq.{take-append_seam, drop-append_seam, drop-drop}
-use Rattle.std.proofs.lemmas.Bool.{and_left, and_right, or_left, or_right, and_parts, cond-true, cond-false, false_from_ne_true, and_from, or_parts, or_from, false≢true, eqb-true, eqb-false, ne_eqb}
+use Rattle.std.proofs.lemmas.Bool.{and_left, and_right, or_left, or_right, and_parts, cond-true, cond-false, false_from_ne_true, and_from, or_parts, or_from, false≢true, eqb-false}
 use Rattle.std.proofs.lemmas.Bool.Decides.{nat_tests}
 use Rattle.luf_num.specs.Digit.{is_digit, is_hex_digit}
 use Rattle.luf_num.specs.Numeral.{is_decimal_mark}
-use Rattle.luf_str.specs.Bytes.{is_quote, is_line_byte}
-use Rattle.luf_lex.specs.Byte.{is_letter, is_word_byte, is_blank, in_line, begins}
+use Rattle.luf_str.specs.Bytes.{is_quote}
+use Rattle.luf_lex.specs.Byte.{is_letter, is_word_byte, is_blank, begins}
 use Rattle.luf_lex.specs.Sign.{sign_spelling, Begins}
 use Rattle.luf_lex.specs.Spelling.{Spells, opens_long}
 use Rattle.luf_lex.specs.First.{IsFirst, is_tried, group_of, begins_comment, begins_numeral, begins_hexadecimal, numeral_tail, numeral_length, Quoted, Bracketed, Commented, Other, Numeric}
@@ -22,7 +21,7 @@ use Rattle.luf_lex.specs.Tokens.{is_token, tok_of, tokens_of, toks_of, spellings
 use Rattle.luf_lex.specs.declared.token.Tok.{Tok}
 use Rattle.luf_lex.specs.declared.token.Tok.TheVariants.{Name, Number, Word, Sign}
 use Rattle.luf_lex.specs.declared.token.Sign.{Sign as Mark}
-use Rattle.luf_lex.specs.declared.token.Sign.TheVariants.{Plus, Equal, Assign}
+use Rattle.luf_lex.specs.declared.token.Sign.TheVariants.{Equal, Assign}
 use Rattle.luf_lex.specs.declared.token.Kind.{Kind}
 use Rattle.luf_lex.specs.declared.token.Kind.TheVariants.{Token, Blank, HashLine}
 use Rattle.luf_lex.specs.declared.token.Kind.TheVariants.{Mark as ByteMark}
@@ -33,7 +32,7 @@ use Rattle.luf_lex.proofs.NumeralLemmas.{numeral_first}
 use Rattle.luf_tree.specs.declared.tree.Chunk.{Chunk}
 use Rattle.luf_tree.specs.Grammar.{IsBlock}
 use Rattle.luf_tree.specs.Small.{IsSmall, HasSmallNumbers}
-use Rattle.luf_tree.proofs.SmallTokens.{IsSmallTok, NoSignFirst, AreSmall, chunk_small}
+use Rattle.luf_tree.proofs.SmallTokens.{IsSmallTok, AreSmall, chunk_small}
 use Rattle.luf_work.specs.Minified.{has_hash_line, SameTokens}
 use Rattle.luf_work.specs.Text.{between, text_of}
 

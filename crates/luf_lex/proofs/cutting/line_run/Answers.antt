@@ -1,4 +1,4 @@
-use Rattle.std.proofs.Common.{ℕ, List, length, take, refl, arith}
+use Rattle.std.proofs.Common.{ℕ, List, length, arith}
 use Rattle.luf_lex.proofs.CommentLemmas.{all_in_line, not_all_in_line, line_run}
 use Rattle.luf_lex.proofs.cutting.line_run.Goals as goal
 
