@@ -1,2 +1,3 @@
-pub mod Outcome
 pub mod Code
+pub mod Line
+pub mod Outcome

@@ -1,7 +1,10 @@
 -- What a run comes to, by its words and the contents of its input. Our own rule.
-use Rattle.std.specs.Prelude.{◌≡◌, ℕ, ◌<◌, ◌≤◌, List, [], ◌∷◌, ◌++◌, length, codes, Option}
+use Rattle.std.specs.Prelude.{◌≡◌, ℕ, ◌≤◌, List, [], ◌∷◌, length, codes, Option, Some}
 use Rattle.std.specs.Option.{ForSome}
-use Rattle.luf_work.specs.Minified.{IsAccepted, IsMinified}
+use Rattle.luf_work.specs.Minified.{IsMinified}
+use Rattle.luf_work.specs.Refusals.{IsRefused}
+use Rattle.luf_work.specs.declared.refusal.Refusal.{Refusal}
+use Rattle.luafmt.specs.Line.{line_of, refusal_line}
 use Rattle.luafmt.specs.declared.status.Status.{Status}
 use Rattle.luafmt.specs.declared.status.Status.TheVariants.{Done, Differs, Usage, Refused, ReadFault, WriteFault, NoMemory, Config}
 
@@ -15,18 +18,12 @@ pub record Outcome : Type 0 where
 abbrev pub IsMinify : List (List ℕ) → Type 0
 IsMinify words = words ≡ codes "minify" ∷ []
 
--- a line of errs, ended by LF
-abbrev pub line_of : List ℕ → List ℕ
-line_of text = text ++ 10 ∷ []
-
--- The table of answers. A source has at most 4 MiB, and it is either accepted or refused.
+-- The table of answers. A source is either accepted or refused.
 pub data Gives : List (List ℕ) → List ℕ → Outcome → Type 0 where
   usage : (words : List (List ℕ)) (contents : List ℕ) → (IsMinify words → ⊥)
       → Gives words contents (record { status = Usage; out = []; errs = line_of (codes "luafmt: Usage") })
-  too_large : (words : List (List ℕ)) (contents : List ℕ) → IsMinify words → 4194304 < length contents
-      → Gives words contents (record { status = Refused; out = []; errs = line_of (codes "-: TooLarge") })
-  not_yet : (words : List (List ℕ)) (contents : List ℕ) → IsMinify words → length contents ≤ 4194304 → (IsAccepted contents → ⊥)
-      → Gives words contents (record { status = Refused; out = []; errs = line_of (codes "-: NotYet") })
+  refused : (words : List (List ℕ)) (contents line : List ℕ) (refusal : Refusal) → IsMinify words → IsRefused contents refusal → refusal_line refusal ≡ Some line
+      → Gives words contents (record { status = Refused; out = []; errs = line_of line })
   done : (words : List (List ℕ)) (contents text : List ℕ) → IsMinify words → length contents ≤ 4194304 → IsMinified contents text
       → Gives words contents (record { status = Done; out = text; errs = [] })
 

@@ -1,14 +1,18 @@
 //! What a run is to write, before any of it is written.
-ghost use Rattle.std.specs.Prelude.{◌≡◌, ◌↔◌, ◌++◌, ℕ, List, [], length, map, codes, string_bytes, IfOk, OnOk, OnErr, IsErrOf, IsTrue};
+ghost use Rattle.std.specs.Prelude.{◌≡◌, ◌↔◌, ℕ, List, [], map, string_bytes, Some, IfOk, OnOk, OnErr, IsErrOf, IsTrue};
 ghost use Rattle.luf_io.specs.Count.{Rose};
 ghost use Rattle.luf_work.specs.Minified.{SameTokens};
+ghost use Rattle.std.specs.Cow.{cow_str_bytes};
+ghost use Rattle.luafmt.specs.Line.{line_of, refusal_line as spec_refusal_line};
 ghost use Rattle.luafmt.specs.Outcome.{Outcome, IsMinify, Gives, AreContents, IsOutcome};
 
+use crate::line::refusal_line;
 use crate::status::Status;
 use luf_io::{ReadErr, Source, read_all};
 use luf_memory::Memory;
 use luf_work::{Refusal, minify_bytes};
 use std::alloc::Global;
+use std::borrow::CowStr;
 use std::marker::Model;
 
 // The most bytes that a source may have.
@@ -19,21 +23,33 @@ const MOST: usize = 4194304;
 pub(crate) struct Answer {
     pub(crate) status: Status,
     pub(crate) out: Vec<u8>,
-    pub(crate) errs: &'static [u8],
+    pub(crate) errs: CowStr<'static>,
 }
 
 impl Model for Answer {
+    ghost use Rattle.std.specs.Cow.{cow_str_bytes};
     ghost use Rattle.luafmt.specs.Outcome.{Outcome};
 
     ghost Value = { Outcome };
 
-    ghost view = { λ a. record { status = a.status; out = a.out.items; errs = a.errs.now } };
+    ghost view = { λ a. record { status = a.status; out = a.out.items; errs = cow_str_bytes a.errs } };
 }
 
 // Why a run has no answer.
 pub(crate) enum Halt {
     ReadFault,
     NoMemory,
+}
+
+impl From<Memory> for Halt {
+    ghost use Rattle.std.specs.Prelude.{◌≡◌};
+    ghost use Rattle.luafmt.specs.declared.answer.Halt.TheVariants.{NoMemory};
+
+    ghost from_gives = { λ _ h. h ≡ NoMemory };
+
+    fn from(_: Memory) -> Halt {
+        Halt::NoMemory
+    }
 }
 
 // The answer to the words. For `minify` the input is read.
@@ -55,15 +71,12 @@ pub(crate) fn prepare<I: Source>(
     ensures no_memory { IsErrOf result Halt.NoMemory → I.faults input.new ≡ I.faults input.old }
 {
     if !is_minify(words) {
-        return Ok(refusal(alloc, Status::Usage, b"luafmt: Usage\n"));
+        return Ok(only_line(alloc, Status::Usage, CowStr::Borrowed("luafmt: Usage\n")));
     }
     let mut source = Vec::new(alloc);
     match read_all(alloc, input, MOST, &mut source) {
-        Ok(()) => match minified(alloc, &source) {
-            Ok(answer) => Ok(answer),
-            Err(Memory) => Err(Halt::NoMemory),
-        },
-        Err(ReadErr::TooLarge) => Ok(too_large(alloc)),
+        Ok(()) => Ok(minified(alloc, &source)?),
+        Err(ReadErr::TooLarge) => Ok(refused(alloc, Refusal::TooLarge)?),
         Err(ReadErr::Fault) => Err(Halt::ReadFault),
         Err(ReadErr::Memory) => Err(Halt::NoMemory),
     }
@@ -89,23 +102,24 @@ fn minified(alloc: Global, source: &[u8]) -> Result<Answer, Memory>
         Ok(()) => Ok(Answer {
             status: Status::Done,
             out,
-            errs: b"",
+            errs: CowStr::Borrowed(""),
         }),
-        Err(Refusal::TooLarge) => Ok(too_large(alloc)),
-        Err(Refusal::NotYet) => Ok(refusal(alloc, Status::Refused, b"-: NotYet\n")),
-        Err(Refusal::Memory) => Err(Memory),
+        Err(refusal) => Ok(refused(alloc, refusal)?),
     }
 }
 
-fn too_large(alloc: Global) -> Answer
-    ensures { result ≡ record { status = Status.Refused; out = []; errs = codes "-: TooLarge\n" } }
+// The answer to a source that is refused. Want of memory has none.
+fn refused(alloc: Global, refusal: Refusal) -> Result<Answer, Memory>
+    ensures { IfOk result (λ a. (line : List ℕ) × (spec_refusal_line refusal ≡ Some line)
+        × (a ≡ record { status = Status.Refused; out = []; errs = line_of line })) }
 {
-    refusal(alloc, Status::Refused, b"-: TooLarge\n")
+    let line = refusal_line(alloc, refusal)?;
+    Ok(only_line(alloc, Status::Refused, line))
 }
 
 // A line for `errs` alone.
-fn refusal(alloc: Global, status: Status, line: &'static [u8]) -> Answer
-    ensures { result ≡ record { status = status; out = []; errs = line.now } }
+fn only_line(alloc: Global, status: Status, line: CowStr<'static>) -> Answer
+    ensures { result ≡ record { status = status; out = []; errs = cow_str_bytes line.entry } }
 {
     Answer {
         status,

@@ -3,6 +3,7 @@
 #![tactic(auto)]
 
 mod answer;
+mod line;
 mod run;
 mod status;
 mod streams;

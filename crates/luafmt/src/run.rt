@@ -93,5 +93,5 @@ fn write<O: Sink, E: Sink>(answer: &Answer, out: &mut O, errs: &mut E) -> Result
         (Rose (O.faults out.old) (O.faults out.new) ⊎ Rose (E.faults errs.old) (E.faults errs.new)) }
 {
     write_all(out, &answer.out)?;
-    write_all(errs, answer.errs)
+    write_all(errs, answer.errs.as_bytes())
 }

@@ -16,6 +16,23 @@ fn spaces(alloc: Global, len: usize) -> Result<Vec<u8>, AllocError> {
     vec![in alloc; b' '; len]
 }
 
+// What a run over objects in memory answers and writes.
+fn ran(alloc: Global, line: &str, source: &str) -> Result<(Status, MemSink, MemSink), Fail> {
+    let words = words_of(alloc, line)?;
+    let mut input = MemSource::new(source.as_bytes().to_vec(alloc)?, 3, Vec::new(alloc));
+    let mut out = MemSink::new(alloc, 100, 1, Vec::new(alloc))?;
+    let mut errs = MemSink::new(alloc, 100, 4, Vec::new(alloc))?;
+    let status = run::run(
+        alloc,
+        &words,
+        &mut NoFiles::new(),
+        &mut input,
+        &mut out,
+        &mut errs,
+    );
+    Ok((status, out, errs))
+}
+
 #[test]
 fn rows(rt: HostRuntime) -> Result<(), Fail> {
     let alloc = rt.alloc();
@@ -27,11 +44,18 @@ fn rows(rt: HostRuntime) -> Result<(), Fail> {
             "local x=1 return x",
             "",
         ),
+        (
+            "minify",
+            "local x = 1 -- c\nreturn x",
+            Status::Done,
+            "local x=1 return x",
+            "",
+        ),
         ("minify", "", Status::Done, "", ""),
         ("minify", "x=1", Status::Refused, "", "-: NotYet\n"),
         (
             "minify",
-            "local x=1return x",
+            "#!lua\nreturn x",
             Status::Refused,
             "",
             "-: NotYet\n",
@@ -40,21 +64,31 @@ fn rows(rt: HostRuntime) -> Result<(), Fail> {
         ("format", "", Status::Usage, "", "luafmt: Usage\n"),
         ("minify -", "", Status::Usage, "", "luafmt: Usage\n"),
     ] {
-        let words = words_of(alloc, line)?;
-        let mut input = MemSource::new(source.as_bytes().to_vec(alloc)?, 3, Vec::new(alloc));
-        let mut out = MemSink::new(alloc, 100, 1, Vec::new(alloc))?;
-        let mut errs = MemSink::new(alloc, 100, 4, Vec::new(alloc))?;
-        let result = run::run(
-            alloc,
-            &words,
-            &mut NoFiles::new(),
-            &mut input,
-            &mut out,
-            &mut errs,
-        );
+        let (result, out, errs) = ran(alloc, line, source)?;
         assert_eq!(rt; result, status, "{line} {source}");
         assert_eq!(rt; out.written(), text.as_bytes(), "{line} {source}");
         assert_eq!(rt; errs.written(), refusal.as_bytes(), "{line} {source}");
+    }
+    Ok(())
+}
+
+// Sources that have no tokens from some place on.
+#[test]
+fn lexical_refusals(rt: HostRuntime) -> Result<(), Fail> {
+    let alloc = rt.alloc();
+    for (source, refusal) in [
+        ("@", "-:1:1: NoToken\n"),
+        ("return 3..2", "-:1:8: BadNumeral\n"),
+        ("local x = 1return x", "-:1:11: BadNumeral\n"),
+        ("return \"\\q\"", "-:1:8: BadEscape\n"),
+        ("x = \"a", "-:1:5: OpenString\n"),
+        ("--[[", "-:1:1: OpenLong\n"),
+        ("return x\r\n\n  [=[ ]] ", "-:3:3: OpenLong\n"),
+    ] {
+        let (result, out, errs) = ran(alloc, "minify", source)?;
+        assert_eq!(rt; result, Status::Refused, "{source}");
+        assert_eq!(rt; out.written(), b"".as_slice(), "{source}");
+        assert_eq!(rt; errs.written(), refusal.as_bytes(), "{source}");
     }
     Ok(())
 }

@@ -1,4 +1,14 @@
-pub mod FirstLemmas
+pub mod RunLemmas
+pub mod PlainLemmas
+pub mod NumeralLemmas
 pub mod TokenLemmas
+pub mod SpellingLemmas
 pub mod CutLemmas
+pub mod BracketLemmas
+pub mod LoneKind
+pub mod StringLemmas
+pub mod CommentLemmas
+pub mod FaultLaws
+pub mod NoteLemmas
 pub mod OneCut
+pub mod WholeCut

@@ -1,17 +1,28 @@
--- A source has at most one cut.
-use Rattle.std.proofs.Common.{◌≡◌, ℕ, ◌-◌, ◌≤◌, Bool, true, false, cond, eqb, ◌&&◌, List, [], ◌∷◌, length, take, drop, refl, sym, ap, ◌∙◌, subst, arith}
-use Rattle.luf_lex.specs.Byte.{is_digit, is_letter, is_blank, begins}
+-- A source has at most one cut and at most one fault, and not both.
+use Rattle.std.proofs.Common.{◌≡◌, ℕ, ◌-◌, Bool, true, false, cond, eqb, ◌&&◌, List, [], ◌∷◌, ◌++◌, length, take, drop, length-drop, refl, sym, ap, ◌∙◌, subst, arith}
+use Rattle.std.proofs.lemmas.Bool.{false≢true}
+use Rattle.luf_str.specs.Bytes.{is_line_byte}
+use Rattle.luf_lex.specs.Byte.{is_letter, is_word_byte, is_blank, begins}
 use Rattle.luf_lex.specs.Word.{word_spelling}
-use Rattle.luf_lex.specs.Spelling.{Spells, IsName, IsLineEnd}
-use Rattle.luf_lex.specs.Cut.{Cuts, IsCut}
+use Rattle.luf_lex.specs.Sign.{sign_spelling}
+use Rattle.luf_lex.specs.Spelling.{Spells, IsName}
+use Rattle.luf_lex.specs.First.{Group, Quoted, Bracketed, Commented, Numeric, Other, group_of, is_tried, IsFirst, IsFault, HasNone}
+use Rattle.luf_lex.specs.Cut.{Cuts, IsCut, IsLexFault, head_of, head_end}
+use Rattle.luf_lex.specs.declared.fault.LexWhat.{LexWhat}
 use Rattle.luf_lex.specs.declared.token.Word.{Word as Keyword}
 use Rattle.luf_lex.specs.declared.token.Word.TheVariants.{And, Break, Do, Else, ElseIf, End, False, For, Function, Goto, If, In, Local, Nil, Not, Or, Repeat, Return, Then, True, Until, While}
-use Rattle.luf_lex.specs.declared.token.Sign.TheVariants.{Assign}
-use Rattle.luf_lex.specs.declared.token.Tok.TheVariants.{Name, Number, Word, Sign}
+use Rattle.luf_lex.specs.declared.token.Sign.{Sign as Mark}
+use Rattle.luf_lex.specs.declared.token.Sign.TheVariants.{Plus, Minus, Star, Slash, Percent, Caret, Hash, Amp, Tilde, Bar, ShiftLeft, ShiftRight, SlashSlash, Equal, NotEqual, LessEqual, GreaterEqual, Less, Greater, Assign, LeftParen, RightParen, LeftBrace, RightBrace, LeftBracket, RightBracket, DoubleColon, Semicolon, Colon, Comma, Dot, DotDot, Dots}
+use Rattle.luf_lex.specs.declared.token.Tok.TheVariants.{Name, Word, Sign}
 use Rattle.luf_lex.specs.declared.token.Kind.{Kind}
 use Rattle.luf_lex.specs.declared.token.Kind.TheVariants.{Token, Blank, LineEnd}
 use Rattle.luf_lex.specs.declared.token.Piece.{Piece}
-use Rattle.luf_lex.proofs.FirstLemmas.{begins_apart, blank_is_no_word, letter_is_no_digit, digit_is_word, letter_is_word, line_end_begins, assign_begins, spelled_letter, one_length}
+use Rattle.luf_lex.proofs.RunLemmas.{begins_apart, begins_weaker}
+use Rattle.luf_lex.proofs.PlainLemmas.{letter_is_word, letter_is_no_blank, letter_is_no_line, blank_is_no_line, keyword_letter, sign_apart, sign_no_word, sign_no_blank, sign_no_line, line_end_is_line}
+use Rattle.luf_lex.proofs.LoneKind.{quoted_kind, bracketed_kind, commented_kind}
+use Rattle.luf_lex.proofs.FaultLaws.{numeric_kind, one_length, fault_has_none, one_fault as one_cause}
+
+-- ---- a spelling is of one keyword, and of one sign
 
 same : List ℕ → List ℕ → Bool
 same [] [] = true
@@ -19,84 +30,92 @@ same (a ∷ front) (b ∷ back) = eqb a b && same front back
 same [] (b ∷ back) = false
 same (a ∷ front) [] = false
 
--- the keyword with a spelling
-pick : List Keyword → List ℕ → Keyword
-pick [] text = And
-pick (w ∷ words) text = cond (same (word_spelling w) text) w (pick words text)
+pick_word : List Keyword → List ℕ → Keyword
+pick_word [] text = And
+pick_word (w ∷ words) text = cond (same (word_spelling w) text) w (pick_word words text)
 
 words : List Keyword
 words = And ∷ Break ∷ Do ∷ Else ∷ ElseIf ∷ End ∷ False ∷ For ∷ Function ∷ Goto ∷ If ∷ In ∷ Local ∷ Nil ∷ Not ∷ Or ∷ Repeat ∷ Return ∷ Then ∷ True ∷ Until ∷ While ∷ []
 
-picked : (w : Keyword) → pick words (word_spelling w) ≡ w
-unfolding pick same words
-picked And = refl
-picked _ = refl
+picked_word : (w : Keyword) → pick_word words (word_spelling w) ≡ w
+unfolding pick_word same words
+picked_word And = refl
+picked_word _ = refl
 
 word_is_one : (v w : Keyword) → word_spelling v ≡ word_spelling w → v ≡ w
-word_is_one v w e = sym (picked v) ∙ ap (pick words) e ∙ picked w
+word_is_one v w e = sym (picked_word v) ∙ ap (pick_word words) e ∙ picked_word w
 
--- bytes of one class are not of another
-letter_blank : (b : ℕ) → is_letter b ≡ true → is_blank b ≡ true → ⊥
-letter_blank b l s = blank_is_no_word b s (letter_is_word b l)
+pick_sign : List Mark → List ℕ → Mark
+pick_sign [] text = Plus
+pick_sign (s ∷ signs) text = cond (same (sign_spelling s) text) s (pick_sign signs text)
 
-digit_blank : (b : ℕ) → is_digit b ≡ true → is_blank b ≡ true → ⊥
-digit_blank b d s = blank_is_no_word b s (digit_is_word b d)
+signs : List Mark
+signs = Plus ∷ Minus ∷ Star ∷ Slash ∷ Percent ∷ Caret ∷ Hash ∷ Amp ∷ Tilde ∷ Bar ∷ ShiftLeft ∷ ShiftRight ∷ SlashSlash ∷ Equal ∷ NotEqual ∷ LessEqual ∷ GreaterEqual ∷ Less ∷ Greater ∷ Assign ∷ LeftParen ∷ RightParen ∷ LeftBrace ∷ RightBrace ∷ LeftBracket ∷ RightBracket ∷ DoubleColon ∷ Semicolon ∷ Colon ∷ Comma ∷ Dot ∷ DotDot ∷ Dots ∷ []
 
--- what is spelled with a letter first is a name or a keyword
-letter_kind : (text : List ℕ) (k : Kind) → begins is_letter text ≡ true → Spells k text → (P : Kind → Type 0) → (IsName text → P (Token Name)) → ((w : Keyword) → word_spelling w ≡ text → P (Token (Word w))) → P k
-letter_kind text (Token Name) l h P name word = name h
-letter_kind text (Token Number) l h P name word = absurd (begins_apart is_letter is_digit letter_is_no_digit text l h.first)
-letter_kind text (Token (Word w)) l h P name word = word w h
-letter_kind text (Token (Sign Assign)) l h P name word = absurd (assign_begins is_letter text refl h l)
-letter_kind text Blank l h P name word = absurd (begins_apart is_letter is_blank letter_blank text l h.first)
-letter_kind text LineEnd l h P name word = absurd (line_end_begins is_letter text refl refl h l)
-letter_kind text _ l h P name word = absurd h
+picked_sign : (s : Mark) → pick_sign signs (sign_spelling s) ≡ s
+unfolding pick_sign same signs
+picked_sign Plus = refl
+picked_sign _ = refl
 
-digit_kind : (text : List ℕ) (k : Kind) → begins is_digit text ≡ true → Spells k text → Token Number ≡ k
-digit_kind text (Token Name) d h = absurd (begins_apart is_letter is_digit letter_is_no_digit text h.first d)
-digit_kind text (Token Number) d h = refl
-digit_kind text (Token (Word w)) d h = absurd (begins_apart is_letter is_digit letter_is_no_digit text (spelled_letter is_letter text w h) d)
-digit_kind text (Token (Sign Assign)) d h = absurd (assign_begins is_digit text refl h d)
-digit_kind text Blank d h = absurd (begins_apart is_digit is_blank digit_blank text d h.first)
-digit_kind text LineEnd d h = absurd (line_end_begins is_digit text refl refl h d)
-digit_kind text _ d h = absurd h
+sign_is_one : (r s : Mark) → sign_spelling r ≡ sign_spelling s → r ≡ s
+sign_is_one r s e = sym (picked_sign r) ∙ ap (pick_sign signs) e ∙ picked_sign s
 
-blank_kind : (text : List ℕ) (k : Kind) → begins is_blank text ≡ true → Spells k text → Blank ≡ k
-blank_kind text (Token Name) s h = absurd (begins_apart is_letter is_blank letter_blank text h.first s)
-blank_kind text (Token Number) s h = absurd (begins_apart is_digit is_blank digit_blank text h.first s)
-blank_kind text (Token (Word w)) s h = absurd (begins_apart is_letter is_blank letter_blank text (spelled_letter is_letter text w h) s)
-blank_kind text (Token (Sign Assign)) s h = absurd (assign_begins is_blank text refl h s)
-blank_kind text Blank s h = refl
-blank_kind text LineEnd s h = absurd (line_end_begins is_blank text refl refl h s)
-blank_kind text _ s h = absurd h
+-- ---- where nothing else begins, a text is spelled by one kind
 
-assign_kind : (text : List ℕ) (k : Kind) → text ≡ 61 ∷ [] → Spells k text → Token (Sign Assign) ≡ k
-assign_kind text (Token Name) e h = absurd (assign_begins is_letter text refl e h.first)
-assign_kind text (Token Number) e h = absurd (assign_begins is_digit text refl e h.first)
-assign_kind text (Token (Word w)) e h = absurd (assign_begins is_letter text refl e (spelled_letter is_letter text w h))
-assign_kind text (Token (Sign Assign)) e h = refl
-assign_kind text Blank e h = absurd (assign_begins is_blank text refl e h.first)
-assign_kind text LineEnd e h = absurd (line_end_begins (λ b. eqb b 61) text refl refl h (subst (λ t. begins (λ b. eqb b 61) t ≡ true) (sym e) refl))
-assign_kind text _ e h = absurd h
+letter_kind : (text : List ℕ) (k : Kind) → is_tried Other k ≡ true → begins is_letter text ≡ true → Spells k text → (P : Kind → Type 0) → (IsName text → P (Token Name)) → ((w : Keyword) → word_spelling w ≡ text → P (Token (Word w))) → P k
+letter_kind text (Token Name) tried l h P name word = name h
+letter_kind text (Token (Word w)) tried l h P name word = word w h
+letter_kind text (Token (Sign s)) tried l h P name word = absurd (sign_apart is_word_byte s text (sign_no_word s) h (begins_weaker is_letter is_word_byte letter_is_word text l))
+letter_kind text Blank tried l h P name word = absurd (begins_apart is_letter is_blank letter_is_no_blank text l h.first)
+letter_kind text LineEnd tried l h P name word = absurd (begins_apart is_letter is_line_byte letter_is_no_line text l (line_end_is_line text h))
+letter_kind text _ tried l h P name word = absurd (false≢true tried)
 
-line_end_kind : (text : List ℕ) (k : Kind) → IsLineEnd text → Spells k text → LineEnd ≡ k
-line_end_kind text (Token Name) e h = absurd (line_end_begins is_letter text refl refl e h.first)
-line_end_kind text (Token Number) e h = absurd (line_end_begins is_digit text refl refl e h.first)
-line_end_kind text (Token (Word w)) e h = absurd (line_end_begins is_letter text refl refl e (spelled_letter is_letter text w h))
-line_end_kind text (Token (Sign Assign)) e h = absurd (line_end_begins (λ b. eqb b 61) text refl refl e (subst (λ t. begins (λ b. eqb b 61) t ≡ true) (sym h) refl))
-line_end_kind text Blank e h = absurd (line_end_begins is_blank text refl refl e h.first)
-line_end_kind text LineEnd e h = refl
-line_end_kind text _ e h = absurd h
+sign_kind : (text : List ℕ) (s : Mark) (k : Kind) → is_tried Other k ≡ true → sign_spelling s ≡ text → Spells k text → Token (Sign s) ≡ k
+sign_kind text s (Token Name) tried e h = absurd (sign_apart is_word_byte s text (sign_no_word s) e (begins_weaker is_letter is_word_byte letter_is_word text h.first))
+sign_kind text s (Token (Word w)) tried e h = absurd (sign_apart is_word_byte s text (sign_no_word s) e (begins_weaker is_letter is_word_byte letter_is_word text (keyword_letter text w h)))
+sign_kind text s (Token (Sign r)) tried e h = ap (λ x. Token (Sign x)) (sign_is_one s r (e ∙ sym h))
+sign_kind text s Blank tried e h = absurd (sign_apart is_blank s text (sign_no_blank s) e h.first)
+sign_kind text s LineEnd tried e h = absurd (sign_apart is_line_byte s text (sign_no_line s) e (line_end_is_line text h))
+sign_kind text s _ tried e h = absurd (false≢true tried)
 
--- a text is spelled by one kind
-pub one_kind : (text : List ℕ) (k j : Kind) → Spells k text → Spells j text → k ≡ j
-one_kind text (Token Name) j h g = letter_kind text j h.first g (λ i. Token Name ≡ i) (λ _. refl) (λ w e. absurd (h.no_keyword w e))
-one_kind text (Token Number) j h g = digit_kind text j h.first g
-one_kind text (Token (Word w)) j h g = letter_kind text j (spelled_letter is_letter text w h) g (λ i. Token (Word w) ≡ i) (λ n. absurd (n.no_keyword w h)) (λ v e. ap (λ x. Token (Word x)) (word_is_one w v (h ∙ sym e)))
-one_kind text (Token (Sign Assign)) j h g = assign_kind text j h g
-one_kind text Blank j h g = blank_kind text j h.first g
-one_kind text LineEnd j h g = line_end_kind text j h g
-one_kind text _ j h g = absurd h
+blank_kind : (text : List ℕ) (k : Kind) → is_tried Other k ≡ true → begins is_blank text ≡ true → Spells k text → Blank ≡ k
+blank_kind text (Token Name) tried b h = absurd (begins_apart is_letter is_blank letter_is_no_blank text h.first b)
+blank_kind text (Token (Word w)) tried b h = absurd (begins_apart is_letter is_blank letter_is_no_blank text (keyword_letter text w h) b)
+blank_kind text (Token (Sign s)) tried b h = absurd (sign_apart is_blank s text (sign_no_blank s) h b)
+blank_kind text Blank tried b h = refl
+blank_kind text LineEnd tried b h = absurd (begins_apart is_blank is_line_byte blank_is_no_line text b (line_end_is_line text h))
+blank_kind text _ tried b h = absurd (false≢true tried)
+
+line_kind : (text : List ℕ) (k : Kind) → is_tried Other k ≡ true → begins is_line_byte text ≡ true → Spells k text → LineEnd ≡ k
+line_kind text (Token Name) tried b h = absurd (begins_apart is_letter is_line_byte letter_is_no_line text h.first b)
+line_kind text (Token (Word w)) tried b h = absurd (begins_apart is_letter is_line_byte letter_is_no_line text (keyword_letter text w h) b)
+line_kind text (Token (Sign s)) tried b h = absurd (sign_apart is_line_byte s text (sign_no_line s) h b)
+line_kind text Blank tried b h = absurd (begins_apart is_blank is_line_byte blank_is_no_line text h.first b)
+line_kind text LineEnd tried b h = refl
+line_kind text _ tried b h = absurd (false≢true tried)
+
+plain_kind : (text : List ℕ) (k j : Kind) → is_tried Other k ≡ true → is_tried Other j ≡ true → Spells k text → Spells j text → k ≡ j
+plain_kind text (Token Name) j tried also h g = letter_kind text j also h.first g (λ i. Token Name ≡ i) (λ _. refl) (λ w e. absurd (h.no_keyword w e))
+plain_kind text (Token (Word w)) j tried also h g = letter_kind text j also (keyword_letter text w h) g (λ i. Token (Word w) ≡ i) (λ n. absurd (n.no_keyword w h)) (λ v e. ap (λ x. Token (Word x)) (word_is_one w v (h ∙ sym e)))
+plain_kind text (Token (Sign s)) j tried also h g = sign_kind text s j also h g
+plain_kind text Blank j tried also h g = blank_kind text j also h.first g
+plain_kind text LineEnd j tried also h g = line_kind text j also (line_end_is_line text h) g
+plain_kind text _ j tried also h g = absurd (false≢true tried)
+
+-- of the kinds that are tried at a place, one at most spells a text
+pub one_kind : (group : Group) (text : List ℕ) (k j : Kind) → is_tried group k ≡ true → is_tried group j ≡ true → Spells k text → Spells j text → k ≡ j
+one_kind Quoted text k j tried also h g = quoted_kind k tried ∙ sym (quoted_kind j also)
+one_kind Bracketed text k j tried also h g = bracketed_kind k tried ∙ sym (bracketed_kind j also)
+one_kind Commented text k j tried also h g = commented_kind k tried ∙ sym (commented_kind j also)
+one_kind Numeric text k j tried also h g = numeric_kind k tried ∙ sym (numeric_kind j also)
+one_kind Other text k j tried also h g = plain_kind text k j tried also h g
+
+-- ---- a text has one first piece
+
+pub one_first : (text : List ℕ) (k j : Kind) (m n : ℕ) → IsFirst text k m → IsFirst text j n → (k ≡ j) × (m ≡ n)
+one_first text k j m n a b =
+    let size : m ≡ n = one_length text k j m n a b in
+    (one_kind (group_of text) (take m text) k j a.tried b.tried a.spelled (subst (λ i. Spells j (take i text)) (sym size) b.spelled), size)
 
 abbrev made : Kind → ℕ → ℕ → Piece
 made kind from to = record { kind = kind; span = record { from = from; to = to } }
@@ -105,25 +124,39 @@ piece_is : (p q : Piece) → p.kind ≡ q.kind → p.span.from ≡ q.span.from �
 piece_is p q k f t =
     ap (λ x. made x p.span.from p.span.to) k ∙ ap (λ x. made q.kind x p.span.to) f ∙ ap (λ x. made q.kind q.span.from x) t
 
-cuts_le : (source : List ℕ) (at : ℕ) (pieces : List Piece) (to : ℕ) → Cuts source at pieces to → at ≤ to
-cuts_le source at [] to cut = omega arith
-cuts_le source at (p ∷ pieces) to cut = omega (arith, cut.0, cut.1, cuts_le source p.span.to pieces to cut.3)
+-- two cuts from one place go on alike
+step : (source : List ℕ) (at : ℕ) (p q : Piece) (pieces others : List Piece) (m n : ℕ) → Cuts source at (p ∷ pieces) m → Cuts source at (q ∷ others) n → p ≡ q
+step source at p q pieces others m n cut whole =
+    let first = one_first (drop at source) p.kind q.kind _ _ cut.2 whole.2 in
+    piece_is p q first.0 (cut.0 ∙ sym whole.0) (omega (arith, cut.0, cut.1, whole.0, whole.1, first.1))
 
-not_done : (source : List ℕ) (at : ℕ) (p : Piece) (pieces : List Piece) → Cuts source at (p ∷ pieces) at → ⊥
-not_done source at p pieces cut = omega (arith, cut.0, cut.1, cut.2.some, cuts_le source p.span.to pieces at cut.3)
+-- and end alike, where no piece begins behind them
+same_stop : (source : List ℕ) (at : ℕ) (pieces others : List Piece) (m n : ℕ) → Cuts source at pieces m → Cuts source at others n → HasNone (drop m source) → HasNone (drop n source) → (pieces ≡ others) × (m ≡ n)
+same_stop source at [] [] m n cut whole none nor = (refl, sym cut ∙ whole)
+same_stop source at [] (q ∷ others) m n cut whole none nor = absurd (none q.kind (q.span.to - q.span.from) (subst (λ i. IsFirst (drop i source) q.kind (q.span.to - q.span.from)) cut whole.2))
+same_stop source at (p ∷ pieces) [] m n cut whole none nor = absurd (nor p.kind (p.span.to - p.span.from) (subst (λ i. IsFirst (drop i source) p.kind (p.span.to - p.span.from)) whole cut.2))
+same_stop source at (p ∷ pieces) (q ∷ others) m n cut whole none nor =
+    let same : p ≡ q = step source at p q pieces others m n cut whole in
+    let rest = same_stop source p.span.to pieces others m n cut.3 (subst (λ (x : Piece). Cuts source x.span.to others n) (sym same) whole.3) none nor in
+    (ap (λ (x : Piece). x ∷ pieces) same ∙ ap (λ (xs : List Piece). q ∷ xs) rest.0, rest.1)
 
-pub one_cuts : (source : List ℕ) (at : ℕ) (pieces others : List Piece) (to : ℕ) → Cuts source at pieces to → Cuts source at others to → pieces ≡ others
-one_cuts source at [] [] to cut whole = refl
-one_cuts source at [] (o ∷ others) to cut whole = absurd (not_done source at o others (subst (λ i. Cuts source at (o ∷ others) i) (sym cut) whole))
-one_cuts source at (p ∷ pieces) [] to cut whole = absurd (not_done source at p pieces (subst (λ i. Cuts source at (p ∷ pieces) i) (sym whole) cut))
-one_cuts source at (p ∷ pieces) (o ∷ others) to cut whole =
-    let n = p.span.to - p.span.from in
-    let e : p.span.to - p.span.from ≡ o.span.to - o.span.from = one_length (drop at source) p.kind o.kind _ _ cut.2 whole.2 in
-    let end : p.span.to ≡ o.span.to = omega (arith, cut.0, cut.1, whole.0, whole.1, e) in
-    let kind : p.kind ≡ o.kind = one_kind (take (p.span.to - p.span.from) (drop at source)) p.kind o.kind cut.2.spelled (subst (λ i. Spells o.kind (take i (drop at source))) (sym e) whole.2.spelled) in
-    let head : p ≡ o = piece_is p o kind (cut.0 ∙ sym whole.0) end in
-    let rest : pieces ≡ others = one_cuts source p.span.to pieces others to cut.3 (subst (λ i. Cuts source i others to) (sym end) whole.3) in
-    ap (λ (x : Piece). x ∷ pieces) head ∙ ap (λ (xs : List Piece). o ∷ xs) rest
+-- no piece begins at the end
+none_at_end : (source : List ℕ) → HasNone (drop (length source) source)
+none_at_end source kind n h = omega (arith, h.some, h.within, length-drop (length source) source)
+
+-- ---- the laws
 
 pub one_cut : (source : List ℕ) (pieces others : List Piece) → IsCut source pieces → IsCut source others → pieces ≡ others
-one_cut source pieces others cut whole = one_cuts source 0 pieces others (length source) cut whole
+one_cut source pieces others cut whole =
+    let rest = same_stop source (head_end source) cut.rest whole.rest (length source) (length source) cut.cut whole.cut (none_at_end source) (none_at_end source) in
+    cut.head ∙ ap (λ ps. head_of source ++ ps) rest.0 ∙ sym whole.head
+
+pub cut_or_fault : (source : List ℕ) (pieces : List Piece) (at : ℕ) (what : LexWhat) → IsCut source pieces → IsLexFault source at what → ⊥
+cut_or_fault source pieces at what cut fault =
+    let stop = same_stop source (head_end source) cut.rest fault.pieces (length source) at cut.cut fault.before (none_at_end source) (fault_has_none fault.fault) in
+    omega (arith, stop.1, fault.inside)
+
+pub one_fault : (source : List ℕ) (at else_at : ℕ) (what other : LexWhat) → IsLexFault source at what → IsLexFault source else_at other → (at ≡ else_at) × (what ≡ other)
+one_fault source at else_at what other fault also =
+    let stop = same_stop source (head_end source) fault.pieces also.pieces at else_at fault.before also.before (fault_has_none fault.fault) (fault_has_none also.fault) in
+    (stop.1, one_cause (drop at source) what other fault.fault (subst (λ i. IsFault (drop i source) other) (sym stop.1) also.fault))

@@ -9,16 +9,6 @@ use Rattle.luf_lex.specs.declared.token.Kind.TheVariants.{Token}
 use Rattle.luf_lex.specs.declared.token.Piece.{Piece}
 use Rattle.luf_lex.specs.declared.token.Tok.{Tok}
 
--- one more piece
-places_step : (b : Bool) (at n : ℕ) (rest end : List ℕ) → (xs ys : List ℕ) → xs ≡ ys ++ end → cond b (at ∷ xs) xs ≡ cond b (at ∷ ys) ys ++ end
-places_step true at n rest end xs ys e = ap (λ zs. at ∷ zs) e
-places_step false at n rest end xs ys e = e
-
-pub places_append : (at : ℕ) (pieces : List Piece) (p : Piece) → token_places at (pieces ++ p ∷ []) ≡ token_places at pieces ++ (cond (is_token p.kind) ((at + length pieces) ∷ []) [])
-places_append at [] p = ap (λ i. cond (is_token p.kind) (i ∷ []) []) (omega arith)
-places_append at (q ∷ pieces) p =
-    places_step (is_token q.kind) at 0 [] _ _ _ (places_append (at + 1) pieces p ∙ ap (λ i. token_places (at + 1) pieces ++ cond (is_token p.kind) (i ∷ []) []) (omega arith))
-
 -- there are as many places as tokens
 length_step : (k : Kind) (at : ℕ) (xs : List ℕ) (n : ℕ) → length xs ≡ n → length (cond (is_token k) (at ∷ xs) xs) ≡ length (option_to_list (tok_of k)) + n
 length_step (Token t) at xs n e = omega (arith, e)

@@ -1,9 +1,7 @@
 -- Bytes, by what they may stand in (Lua 5.4 manual, 3.1).
-use Rattle.std.specs.Prelude.{ℕ, Bool, false, ◌&&◌, ◌||◌, ◌==◌, nat_le, List, [], ◌∷◌}
-
--- a decimal digit
-abbrev pub is_digit : ℕ → Bool
-is_digit b = nat_le 48 b && nat_le b 57
+use Rattle.std.specs.Prelude.{ℕ, Bool, false, not, ◌&&◌, ◌||◌, ◌==◌, nat_le, List, [], ◌∷◌}
+use Rattle.luf_num.specs.Digit.{is_digit}
+use Rattle.luf_str.specs.Bytes.{is_line_byte}
 
 -- a letter or `_`
 abbrev pub is_letter : ℕ → Bool
@@ -17,11 +15,11 @@ is_word_byte b = is_letter b || is_digit b
 abbrev pub is_blank : ℕ → Bool
 is_blank b = (b == 32) || ((b == 9) || ((b == 11) || (b == 12)))
 
+-- what is in no line end
+abbrev pub in_line : ℕ → Bool
+in_line b = not (is_line_byte b)
+
 -- whether a text begins with such a byte
 abbrev pub begins : (ℕ → Bool) → List ℕ → Bool
 begins test [] = false
 begins test (b ∷ rest) = test b
-
--- LF or CR
-abbrev pub is_line_end : ℕ → Bool
-is_line_end b = (b == 10) || (b == 13)

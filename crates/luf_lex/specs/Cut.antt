@@ -1,20 +1,31 @@
--- The cut of a source into pieces.
-use Rattle.std.specs.Prelude.{◌≡◌, ℕ, ◌<◌, ◌≤◌, ◌-◌, true, List, [], ◌∷◌, length, take, drop}
-use Rattle.std.specs.List.{prefix_len}
-use Rattle.luf_lex.specs.Byte.{is_digit, is_word_byte, begins}
-use Rattle.luf_lex.specs.Spelling.{Spells}
-use Rattle.luf_lex.specs.declared.token.Kind.{Kind}
+-- The cut of a source into pieces, and its lexical fault.
+use Rattle.std.specs.Prelude.{◌≡◌, ℕ, ◌+◌, ◌-◌, ◌<◌, ◌≤◌, ◌==◌, List, [], ◌∷◌, ◌++◌, length, drop, if◌then◌else◌, nat_eq}
+use Rattle.std.specs.List.{prefix_len, starts_with}
+use Rattle.luf_lex.specs.Byte.{in_line, begins}
+use Rattle.luf_lex.specs.First.{IsFirst, IsFault}
+use Rattle.luf_lex.specs.declared.fault.LexWhat.{LexWhat}
+use Rattle.luf_lex.specs.declared.fault.LexErr.{LexErr}
+use Rattle.luf_lex.specs.declared.fault.LexErr.TheVariants.{Bad, Memory}
+use Rattle.luf_lex.specs.declared.token.Kind.TheVariants.{HashLine, Mark}
 use Rattle.luf_lex.specs.declared.token.Piece.{Piece}
 
--- The first n bytes of a text are its first piece: they spell this kind, and no longer front of the text
--- spells any. Where a numeral begins, the piece has all letters and digits that follow (our own rule, after
--- the Lua 5.4 scanner, so that `3x` is no numeral and a name).
-pub record IsFirst (text : List ℕ) (kind : Kind) (n : ℕ) : Type 0 where
-  pub some : 0 < n
-  pub within : n ≤ length text
-  pub spelled : Spells kind (take n text)
-  pub longest : (other : Kind) (m : ℕ) → n < m → m ≤ length text → Spells other (take m text) → ⊥
-  pub numeral : begins is_digit text ≡ true → n ≡ prefix_len is_word_byte text
+-- how many bytes the byte order mark has that a source begins with
+abbrev pub mark_length : List ℕ → ℕ
+mark_length source = if starts_with nat_eq source (0xEF ∷ 0xBB ∷ 0xBF ∷ []) then 3 else 0
+
+-- how many bytes a first line has that begins with `#`
+abbrev pub hash_length : List ℕ → ℕ
+hash_length text = if begins (λ b. b == 35) text then prefix_len in_line text else 0
+
+-- where the pieces begin that may stand anywhere
+abbrev pub head_end : List ℕ → ℕ
+head_end source = mark_length source + hash_length (drop (mark_length source) source)
+
+-- a mark and a `#` line at the start
+abbrev pub head_of : List ℕ → List Piece
+head_of source =
+    (if mark_length source == 0 then [] else record { kind = Mark; span = record { from = 0; to = mark_length source } } ∷ [])
+    ++ (if head_end source == mark_length source then [] else record { kind = HashLine; span = record { from = mark_length source; to = head_end source } } ∷ [])
 
 -- these pieces, one after another, are the bytes of a source from one place to another
 abbrev pub Cuts : List ℕ → ℕ → List Piece → ℕ → Type 0
@@ -22,5 +33,19 @@ Cuts source at [] to = at ≡ to
 Cuts source at (p ∷ pieces) to = (p.span.from ≡ at) × (p.span.from ≤ p.span.to) × IsFirst (drop at source) p.kind (p.span.to - p.span.from) × Cuts source p.span.to pieces to
 
 -- the cut of a source: its pieces are all of it
-abbrev pub IsCut : List ℕ → List Piece → Type 0
-IsCut source pieces = Cuts source 0 pieces (length source)
+pub record IsCut (source : List ℕ) (pieces : List Piece) : Type 0 where
+  pub rest : List Piece
+  pub head : pieces ≡ head_of source ++ rest
+  pub cut : Cuts source (head_end source) rest (length source)
+
+-- the lexical fault of a source: its first place that has no piece, and why
+pub record IsLexFault (source : List ℕ) (at : ℕ) (what : LexWhat) : Type 0 where
+  pub inside : at < length source
+  pub pieces : List Piece
+  pub before : Cuts source (head_end source) pieces at
+  pub fault : IsFault (drop at source) what
+
+-- the cause of an error
+abbrev pub IsCause : List ℕ → LexErr → Type 0
+IsCause source (Bad at what) = IsLexFault source at what
+IsCause source Memory = Unit {0}

@@ -1,5 +1,11 @@
 pub mod Byte
 pub mod Word
+pub mod Sign
 pub mod Spelling
+pub mod First
+pub mod Group
+pub mod Scan
 pub mod Cut
 pub mod Tokens
+pub mod Note
+pub mod Leads

@@ -4,7 +4,7 @@ use Rattle.std.specs.Option.{option_to_list}
 use Rattle.luf_lex.specs.declared.token.Kind.{Kind}
 use Rattle.luf_lex.specs.declared.token.Kind.TheVariants.{Token}
 use Rattle.luf_lex.specs.declared.token.Tok.{Tok}
-use Rattle.luf_lex.specs.declared.token.Span.{Span}
+use Rattle.luf_text.specs.declared.Span.{Span}
 use Rattle.luf_lex.specs.declared.token.Piece.{Piece}
 
 -- the token that a kind is, if it is one

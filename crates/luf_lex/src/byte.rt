@@ -1,10 +1,12 @@
 // Bytes, by what they may stand in.
 ghost use Rattle.std.specs.Prelude.{◌≡◌};
 ghost use Rattle.std.specs.List.{prefix_len};
+ghost use Rattle.luf_num.specs.Digit as digit;
+ghost use Rattle.luf_str.specs.Bytes as bytes;
 ghost use Rattle.luf_lex.specs.Byte as byte;
 
 pub(crate) fn is_digit(b: u8) -> bool
-    ensures { result ≡ byte.is_digit b }
+    ensures { result ≡ digit.is_digit b }
 {
     b'0' <= b && b <= b'9'
 }
@@ -27,24 +29,19 @@ pub(crate) fn is_blank(b: u8) -> bool
     b == b' ' || b == b'\t' || b == 11 || b == 12
 }
 
+/// LF or CR.
+pub(crate) fn is_line_byte(b: u8) -> bool
+    ensures { result ≡ bytes.is_line_byte b }
+{
+    b == b'\n' || b == b'\r'
+}
+
 /// How many letters and digits a text begins with.
 pub(crate) fn word_run(text: &[u8]) -> usize
     ensures { result ≡ prefix_len byte.is_word_byte text.now }
 {
     for (i, b) in text.iter().enumerate() {
         if !is_word_byte(*b) {
-            return i;
-        }
-    }
-    text.len()
-}
-
-/// How many digits a text begins with.
-pub(crate) fn digit_run(text: &[u8]) -> usize
-    ensures { result ≡ prefix_len byte.is_digit text.now }
-{
-    for (i, b) in text.iter().enumerate() {
-        if !is_digit(*b) {
             return i;
         }
     }

@@ -1,69 +1,36 @@
 // The first piece of a text.
-ghost use Rattle.std.specs.Prelude.{◌≡◌, ◌<◌, ℕ, true, length, MatchOption};
-ghost use Rattle.luf_lex.specs.Byte as byte;
-ghost use Rattle.luf_lex.specs.Cut.{IsFirst};
+ghost use Rattle.std.specs.Prelude.{◌≡◌, ◌<◌, length, MatchResult};
+ghost use Rattle.luf_lex.specs.First.{IsFirst, IsFault};
 
-use crate::byte::{blank_run, digit_run, is_blank, is_digit, is_letter, word_run};
-use crate::word::keyword;
-use crate::{Kind, Sign, Tok};
+use crate::comment::comment;
+use crate::group::{Tried, group_at};
+use crate::numeral::numeral;
+use crate::plain::plain;
+use crate::string::{long_string, short_string};
+use crate::{Kind, LexWhat, Tok};
 
-/// The first piece of a text, its kind and its length, if it has one.
-pub(crate) fn first(text: &[u8]) -> Option<(Kind, usize)>
+/// The first piece of a text, its kind and its length; or why it has none.
+pub(crate) fn first(text: &[u8]) -> Result<(Kind, usize), LexWhat>
     requires { 0 < length text.now }
-    ensures { MatchOption result ((kind : Kind) (n : ℕ) → IsFirst text.now kind n → ⊥) (λ piece. IsFirst text.now piece.0 piece.1) }
+    ensures { MatchResult result (λ piece. IsFirst text.now piece.0 piece.1) (λ what. IsFault text.now what) }
 {
-    let b = text[0];
-    if is_letter(b) {
-        return Some(word(text));
-    }
-    if is_digit(b) {
-        return numeral(text);
-    }
-    if is_blank(b) {
-        return Some((Kind::Blank, blank_run(text)));
-    }
-    if b == b'\n' || b == b'\r' {
-        return Some((Kind::LineEnd, line_end(text)));
-    }
-    if b == b'=' {
-        return Some((Kind::Token(Tok::Sign(Sign::Assign)), 1));
-    }
-    None
-}
-
-/// A name or a keyword.
-fn word(text: &[u8]) -> (Kind, usize)
-    requires { byte.begins byte.is_letter text.now ≡ true }
-    ensures { IsFirst text.now result.0 result.1 }
-{
-    let len = word_run(text);
-    let tok = match keyword(&text[..len]) {
-        Some(word) => Tok::Word(word),
-        None => Tok::Name,
-    };
-    (Kind::Token(tok), len)
-}
-
-/// A numeral; a letter after its digits leaves none.
-fn numeral(text: &[u8]) -> Option<(Kind, usize)>
-    requires { byte.begins byte.is_digit text.now ≡ true }
-    ensures { MatchOption result ((kind : Kind) (n : ℕ) → IsFirst text.now kind n → ⊥) (λ piece. IsFirst text.now piece.0 piece.1) }
-{
-    let len = word_run(text);
-    if digit_run(text) == len {
-        Some((Kind::Token(Tok::Number), len))
-    } else {
-        None
+    match group_at(text) {
+        Tried::ShortString => of_kind(Kind::Token(Tok::Short), short_string(text)),
+        Tried::LongString => of_kind(Kind::Token(Tok::Long), long_string(text)),
+        Tried::Comment => of_kind(Kind::Comment, comment(text)),
+        Tried::Numeral => of_kind(Kind::Token(Tok::Number), numeral(text)),
+        Tried::Other => match plain(text) {
+            Some(piece) => Ok(piece),
+            None => Err(LexWhat::NoToken),
+        },
     }
 }
 
-/// The length of the line end that a text begins with.
-fn line_end(text: &[u8]) -> usize
-    requires { byte.begins byte.is_line_end text.now ≡ true }
-    ensures { IsFirst text.now Kind.LineEnd result }
+fn of_kind(kind: Kind, len: Result<usize, LexWhat>) -> Result<(Kind, usize), LexWhat>
+    ensures { MatchResult len (λ n. result ≡ Ok (kind, n)) (λ what. result ≡ Err what) }
 {
-    match text {
-        [b'\n', b'\r', ..] | [b'\r', b'\n', ..] => 2,
-        _ => 1,
+    match len {
+        Ok(len) => Ok((kind, len)),
+        Err(what) => Err(what),
     }
 }

@@ -1,13 +1,29 @@
 //! The pieces of a source: its tokens and what lies between them, each with its place.
 #![tactic(auto)]
 
+mod bracket;
 mod byte;
+mod comment;
 mod cutting;
+mod fault;
 mod first;
+mod group;
+mod laws;
+mod note;
+mod numeral;
 mod pieces;
+mod plain;
+mod sign;
+mod string;
+#[cfg(test)]
+mod tests;
 mod token;
 mod word;
 
-pub use cutting::{LexErr, cut, one_cut};
+pub use cutting::cut;
+pub use fault::{LexErr, LexWhat};
+pub use laws::{cut_or_fault, joined, lexical_fault, one_cut, one_fault};
+pub use luf_text::Span;
+pub use note::Note;
 pub use pieces::Cut;
-pub use token::{Kind, Piece, Sign, Span, Tok, Word};
+pub use token::{Kind, Piece, Sign, Tok, Word};

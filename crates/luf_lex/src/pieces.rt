@@ -1,12 +1,19 @@
-// The pieces of a source, with an index of the tokens among them.
-ghost use Rattle.std.specs.Prelude.{◌≡◌, ◌<◌, ◌≤◌, ◌^◌, ◌↔◌, ◌++◌, ◌∷◌, [], length, slice_get, IsTrue, OnOk};
+// The pieces of a source, with an index of the tokens and the comments among them.
+ghost use Rattle.std.specs.Prelude.{◌≡◌, ◌≤◌, ◌↔◌, length, slice_get, slice_index_or, IfOk, IsTrue};
 ghost use Rattle.std.specs.Option.{option_copied};
 ghost use Rattle.luf_lex.specs.Cut.{IsCut};
+ghost use Rattle.luf_lex.specs.Leads.{IsLeadIndex};
+ghost use Rattle.luf_lex.specs.Note.{lead_of, blank_of};
 ghost use Rattle.luf_lex.specs.Tokens.{toks_of, spans_of, spellings_of, tokens_of, token_places, IsIndex};
 
-use crate::{Kind, Piece, Span, Tok};
+use crate::note::{Leads, has_empty_line};
+use crate::{Kind, Note, Piece, Span, Tok};
 use luf_memory::Memory;
+use std::alloc::Global;
 use std::marker::Model;
+
+#[cfg(test)]
+mod tests;
 
 /// The pieces of a source, in order. A contract sees it as their list.
 #[derive(Debug, Drop)]
@@ -14,6 +21,7 @@ pub struct Cut {
     pieces: Vec<Piece>,
     /// The places of the tokens among the pieces.
     tokens: Vec<u32>,
+    leads: Leads,
 }
 
 impl Model for Cut {
@@ -22,19 +30,27 @@ impl Model for Cut {
 
     ghost Value = { List Piece };
 
+    ghost use Rattle.luf_lex.specs.Leads.{IsLeadIndex};
     ghost use Rattle.luf_lex.specs.Tokens.{IsIndex};
 
     ghost view = { λ c. c.pieces.items };
 
-    ghost invariant = { λ c. IsIndex c.tokens.items c.pieces.items };
+    ghost invariant = { λ c. (IsIndex c.tokens.items c.pieces.items) × IsLeadIndex c.leads.notes.items c.leads.bounds.items c.pieces.items };
 }
 
 impl Cut {
-    pub(crate) fn from_parts(pieces: Vec<Piece>, tokens: Vec<u32>) -> Cut
-        requires { IsIndex tokens.items pieces.items }
-        ensures { result ≡ pieces.items }
+    /// The pieces with their index. The only error is that no memory was found.
+    pub(crate) fn of(alloc: Global, pieces: Vec<Piece>) -> Result<Cut, Memory>
+        requires { length pieces.items ≤ 16777216 }
+        ensures { IfOk result (λ cut. cut ≡ pieces.items) }
     {
-        Cut { pieces, tokens }
+        let tokens = token_index(alloc, pieces.as_slice())?;
+        let leads = Leads::of(alloc, pieces.as_slice())?;
+        Ok(Cut {
+            pieces,
+            tokens,
+            leads,
+        })
     }
 
     /// The pieces, in order.
@@ -87,6 +103,38 @@ impl Cut {
         Some(&src[from..to])
     }
 
+    /// The comments between token `n - 1` and token `n`, in order: before the first token for 0, and after the
+    /// last one for `tokens`.
+    pub fn lead(&self, n: u32) -> &[Note]
+        requires { n ≤ length (toks_of self.now) }
+        ensures { result.now ≡ lead_of self.now n }
+    {
+        self.leads.get(n as usize)
+    }
+
+    /// Whether an empty line stands directly before token `n`, or before the end for `tokens`.
+    ///
+    /// It goes back over the blanks and line ends there, so that the calls for all tokens together are linear.
+    pub fn blank(&self, n: u32) -> bool
+        requires { n ≤ length (toks_of self.now) }
+        ensures { result ≡ blank_of self.now n }
+    {
+        has_empty_line(&self.pieces[..self.place_of(n)])
+    }
+
+    /// The place of token `n` among the pieces; their number from `tokens` on.
+    fn place_of(&self, n: u32) -> usize
+        ensures place { result ≡ slice_index_or (token_places 0 self.now) n (length self.now) }
+        ensures within { result ≤ length self.now }
+    {
+        let n = n as usize;
+        if n < self.tokens.len() {
+            self.tokens[n] as usize
+        } else {
+            self.pieces.len()
+        }
+    }
+
     fn piece_of(&self, n: u32) -> Option<Piece>
         ensures { result ≡ slice_get (tokens_of self.now) n }
     {
@@ -100,20 +148,16 @@ impl Cut {
     }
 }
 
-/// Puts a piece at the end, and its place into the index where it is a token.
-pub(crate) fn push_piece(
-    pieces: &mut Vec<Piece>,
-    tokens: &mut Vec<u32>,
-    piece: Piece,
-) -> Result<(), Memory>
-    requires index { tokens.old.items ≡ token_places 0 pieces.old.items }
-    requires few { length pieces.old.items < 2 ^ 32 }
-    ensures pieces { OnOk result (pieces.new.items ≡ pieces.old.items ++ piece ∷ []) }
-    ensures index { OnOk result (tokens.new.items ≡ token_places 0 pieces.new.items) }
+/// The places of the tokens among the pieces.
+fn token_index(alloc: Global, pieces: &[Piece]) -> Result<Vec<u32>, Memory>
+    requires { length pieces.now ≤ 16777216 }
+    ensures { IfOk result (λ tokens. tokens.items ≡ token_places 0 pieces.now) }
 {
-    if piece.kind.is_token() {
-        tokens.push(pieces.len() as u32)?;
+    let mut tokens = Vec::new(alloc);
+    for (place, piece) in pieces.iter().enumerate() {
+        if piece.kind.is_token() {
+            tokens.push(place as u32)?;
+        }
     }
-    pieces.push(piece)?;
-    Ok(())
+    Ok(tokens)
 }

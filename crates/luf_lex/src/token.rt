@@ -1,6 +1,9 @@
 // What a piece of source is, and where it lies.
 ghost use Rattle.std.specs.Prelude.{◌≡◌};
+ghost use Rattle.luf_lex.specs.Note as notes;
 ghost use Rattle.luf_lex.specs.Tokens as tokens;
+
+use luf_text::Span;
 
 /// A keyword (Lua 5.4 manual, 3.1).
 #[derive(Clone, Copy, Debug, PartialEq, Eq)]
@@ -93,13 +96,6 @@ pub enum Kind {
     Mark,
 }
 
-/// The bytes `from..to` of a source.
-#[derive(Clone, Copy, Debug, PartialEq, Eq)]
-pub struct Span {
-    pub from: u32,
-    pub to: u32,
-}
-
 /// A piece of a source.
 #[derive(Clone, Copy, Debug, PartialEq, Eq)]
 pub struct Piece {
@@ -113,5 +109,24 @@ impl Kind {
         ensures { result ≡ tokens.is_token self }
     {
         matches!(self, Kind::Token(_))
+    }
+
+    /// Whether it makes a line other than empty: a token or a comment.
+    pub(crate) fn is_content(self) -> bool
+        ensures { result ≡ notes.is_content self }
+    {
+        matches!(self, Kind::Token(_) | Kind::Comment)
+    }
+
+    pub(crate) fn is_space(self) -> bool
+        ensures { result ≡ notes.is_space self }
+    {
+        matches!(self, Kind::Blank)
+    }
+
+    pub(crate) fn is_line_end(self) -> bool
+        ensures { result ≡ notes.is_line_end self }
+    {
+        matches!(self, Kind::LineEnd)
     }
 }

@@ -72,10 +72,10 @@ small_name source pieces n at spelling number is = cc
 pub small_sign : (source : List ℕ) (pieces : List Piece) (n : ℕ) → At (toks_of pieces) n (Sign Assign) → IsSmallAt source pieces n
 small_sign source pieces n at spelling number is = cc
 
-four : (n i : ℕ) → i ≤ n → n < i + 4 → (n ≡ i) ⊎ ((n ≡ i + 1) ⊎ ((n ≡ i + 2) ⊎ (n ≡ i + 3)))
+pub four : (n i : ℕ) → i ≤ n → n < i + 4 → (n ≡ i) ⊎ ((n ≡ i + 1) ⊎ ((n ≡ i + 2) ⊎ (n ≡ i + 3)))
 four n i from to = grind arith
 
-two : (n i : ℕ) → i ≤ n → n < i + 2 → (n ≡ i) ⊎ (n ≡ i + 1)
+pub two : (n i : ℕ) → i ≤ n → n < i + 2 → (n ≡ i) ⊎ (n ≡ i + 1)
 two n i from to = grind arith
 
 -- a statement from its tokens, and its numerals
@@ -138,7 +138,7 @@ stat_within toks i j s h =
     let token = expr_token toks (i + 3) j parts.what parts.value in
     omega (arith, expr_end toks (i + 3) j parts.what parts.value, at_within toks (i + 3) token.0 token.1)
 
-stats_grow : (toks : List Tok) (i k : ℕ) (all : List Stat) → IsStats toks i k all → i ≤ k
+pub stats_grow : (toks : List Tok) (i k : ℕ) (all : List Stat) → IsStats toks i k all → i ≤ k
 stats_grow _ _ _ _ (no_stats toks i) = omega arith
 stats_grow _ _ _ _ (more_stats toks i j k s rest a b) = omega (arith, stat_end toks i j s a, stats_grow toks j k rest b)
 stats_grow _ _ _ _ (last_stat toks i j s a) = let parts = return_parts toks i j s a in omega (arith, expr_end toks (i + 1) j parts.what parts.value)

@@ -1,4 +1,4 @@
--- The grammar (Lua 5.4 manual, 9), one constructor for each production that is built so far. A derivation
+-- The grammar of the small form, after Lua 5.4 manual, 9: one constructor for each production. A derivation
 -- says that the tokens from one place to another, which is excluded, form a part of the tree.
 use Rattle.std.specs.Prelude.{◌≡◌, ℕ, ◌+◌, Some, None, List, [], ◌∷◌, length, slice_get}
 use Rattle.luf_lex.specs.declared.token.Tok.{Tok}

@@ -5,11 +5,11 @@ use Rattle.luf_lex.specs.declared.token.Tok.TheVariants.{Number}
 use Rattle.luf_lex.specs.declared.token.Piece.{Piece}
 use Rattle.luf_tree.specs.declared.tree.Chunk.{Chunk}
 use Rattle.luf_tree.specs.Grammar.{At, IsChunk}
-use Rattle.luf_tree.specs.Number.{digits_value}
+use Rattle.luf_tree.specs.Number.{IsSmallNumber}
 
--- if token n is a numeral, it is at most the greatest integer, 2^63 - 1
+-- if token n is a numeral, it is decimal digits that write at most the greatest integer
 abbrev pub IsSmallAt : List ℕ → List Piece → ℕ → Type 0
-IsSmallAt source pieces n = (spelling : List ℕ) → At (toks_of pieces) n Number → slice_get (spellings_of source pieces) n ≡ Some spelling → digits_value spelling ≤ 9223372036854775807
+IsSmallAt source pieces n = (spelling : List ℕ) → At (toks_of pieces) n Number → slice_get (spellings_of source pieces) n ≡ Some spelling → IsSmallNumber spelling
 
 -- each numeral among the tokens from one place to another is
 abbrev pub HasSmallNumbers : List ℕ → List Piece → ℕ → ℕ → Type 0

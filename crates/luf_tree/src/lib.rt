@@ -3,6 +3,8 @@
 
 mod number;
 mod parse_small;
+#[cfg(test)]
+mod tests;
 mod tree;
 
 pub use parse_small::{SmallErr, small};

@@ -1,3 +1,3 @@
-pub mod TextLemmas
 pub mod CutText
 pub mod RefusalLemmas
+pub mod TextLemmas

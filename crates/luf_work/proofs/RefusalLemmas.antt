@@ -1,6 +1,6 @@
--- When no source is accepted.
-use Rattle.std.proofs.Common.{◌≡◌, ℕ, List, Err, refl, sym, ◌∙◌, subst}
-use Rattle.std.specs.Prelude.{IsErrOf}
+-- When a source is not accepted.
+use Rattle.std.proofs.Common.{◌≡◌, ℕ, ◌≤◌, true, List, length, refl, sym, ap, ◌∙◌, subst}
+use Rattle.std.proofs.lemmas.Bool.{false≢true}
 use Rattle.luf_lex.specs.Cut.{IsCut}
 use Rattle.luf_lex.specs.declared.token.Piece.{Piece}
 use Rattle.luf_lex.proofs.OneCut.{one_cut}
@@ -8,22 +8,27 @@ use Rattle.luf_tree.specs.declared.tree.Chunk.{Chunk}
 use Rattle.luf_tree.specs.declared.parse_small.SmallErr.{SmallErr}
 use Rattle.luf_tree.specs.declared.parse_small.SmallErr.TheVariants as small
 use Rattle.luf_tree.specs.Small.{IsSmall}
-use Rattle.luf_work.specs.Refusals.{small_refusal}
-use Rattle.luf_work.specs.Minified.{IsAccepted}
+use Rattle.luf_work.specs.Errors.{small_refusal}
+use Rattle.luf_work.specs.Minified.{has_hash_line}
+use Rattle.luf_work.specs.Refusals.{IsNotYet, IsRefused}
 use Rattle.luf_work.specs.declared.refusal.Refusal.{Refusal}
-use Rattle.luf_work.specs.declared.refusal.Refusal.TheVariants.{NotYet}
 
--- the error of a parser that becomes `NotYet` is its own
-from_small : (e : SmallErr) → small_refusal e ≡ NotYet → e ≡ small.NotYet
-from_small small.NotYet h = refl
-from_small small.Memory h = cc
+-- the pieces have a `#` line
+pub has_hash : (source : List ℕ) (pieces : List Piece) → IsCut source pieces → has_hash_line pieces ≡ true → IsNotYet source
+has_hash source pieces cut hash = record {
+  pieces = pieces;
+  cut = cut;
+  other = λ accepted. false≢true (sym accepted.is.plain ∙ ap has_hash_line (one_cut source accepted.pieces pieces accepted.is.cut cut) ∙ hash);
+}
 
--- where the pieces form no tree of the small form, the source is not accepted
-pub not_small : (source : List ℕ) (pieces : List Piece) (e : SmallErr) (r : Refusal) → IsCut source pieces → (e ≡ small.NotYet → (chunk : Chunk) → IsSmall source pieces chunk → ⊥) → r ≡ small_refusal e → r ≡ NotYet → IsAccepted source → ⊥
-not_small source pieces e r cut none is refused accepted =
-    none (from_small e (sym is ∙ refused)) accepted.chunk
-    (subst (λ (ps : List Piece). IsSmall source ps accepted.chunk) (one_cut source accepted.pieces pieces accepted.is.cut cut) accepted.is.small)
+-- the pieces form no tree of the small form
+no_tree : (source : List ℕ) (pieces : List Piece) → IsCut source pieces → ((chunk : Chunk) → IsSmall source pieces chunk → ⊥) → IsNotYet source
+no_tree source pieces cut none = record {
+  pieces = pieces;
+  cut = cut;
+  other = λ accepted. none accepted.chunk (subst (λ (ps : List Piece). IsSmall source ps accepted.chunk) (one_cut source accepted.pieces pieces accepted.is.cut cut) accepted.is.small);
+}
 
--- an error is the one that it is
-pub err_is : (r e : Refusal) → IsErrOf {T = Unit {0}} (Err r) e → r ≡ e
-err_is r e h = cc
+pub small_cause : (source : List ℕ) (pieces : List Piece) (e : SmallErr) (r : Refusal) → length source ≤ 4194304 → IsCut source pieces → (e ≡ small.NotYet → (chunk : Chunk) → IsSmall source pieces chunk → ⊥) → r ≡ small_refusal e → IsRefused source r
+small_cause source pieces small.NotYet r within cut none is = subst (IsRefused source) (sym is) (within, no_tree source pieces cut (none refl))
+small_cause source pieces small.Memory r within cut none is = subst (IsRefused source) (sym is) tt

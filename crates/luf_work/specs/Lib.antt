@@ -1,3 +1,4 @@
+pub mod Errors
+pub mod Minified
 pub mod Refusals
 pub mod Text
-pub mod Minified

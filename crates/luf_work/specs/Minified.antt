@@ -1,15 +1,27 @@
--- What `minify` accepts and writes.
-use Rattle.std.specs.Prelude.{◌≡◌, ℕ, ◌≤◌, List, length}
+-- What `minify` accepts and writes. Our own rules.
+use Rattle.std.specs.Prelude.{◌≡◌, ℕ, ◌≤◌, Bool, true, false, List, length}
+use Rattle.std.specs.List.{list_any}
 use Rattle.luf_lex.specs.Cut.{IsCut}
 use Rattle.luf_lex.specs.Tokens.{toks_of, spellings_of}
+use Rattle.luf_lex.specs.declared.token.Kind.{Kind}
+use Rattle.luf_lex.specs.declared.token.Kind.TheVariants.{HashLine}
 use Rattle.luf_lex.specs.declared.token.Piece.{Piece}
 use Rattle.luf_tree.specs.declared.tree.Chunk.{Chunk}
 use Rattle.luf_tree.specs.Small.{IsSmall}
 use Rattle.luf_work.specs.Text.{text_of}
 
--- a source of the small form: its pieces and its tree
+abbrev pub is_hash_line : Kind → Bool
+is_hash_line HashLine = true
+is_hash_line _ = false
+
+-- whether a `#` line is among these pieces
+abbrev pub has_hash_line : List Piece → Bool
+has_hash_line pieces = list_any (λ p. is_hash_line p.kind) pieces
+
+-- a source of the small form: its pieces, none of them a `#` line, and its tree
 pub record IsSource (source : List ℕ) (pieces : List Piece) (chunk : Chunk) : Type 0 where
   pub cut : IsCut source pieces
+  pub plain : has_hash_line pieces ≡ false
   pub small : IsSmall source pieces chunk
 
 -- a source that is accepted: it is of the small form, and within the limit of 4 MiB

@@ -3,6 +3,8 @@
 
 mod minify;
 mod refusal;
+#[cfg(test)]
+mod tests;
 mod text;
 
 pub use minify::minify_bytes;

@@ -1,7 +1,7 @@
 // Why a source is not accepted.
-
-use luf_lex::LexErr;
+use luf_lex::LexWhat;
 use luf_memory::Memory;
+use luf_text::Place;
 use luf_tree::SmallErr;
 
 /// Why a job gives no text.
@@ -9,28 +9,16 @@ use luf_tree::SmallErr;
 pub enum Refusal {
     /// The source has more than 4,194,304 bytes.
     TooLarge,
-    /// The source is not of the small form.
+    /// The source has no cut into pieces: where its first fault is, and which.
+    Lexical(Place, LexWhat),
+    /// The source begins with a `#` line, or its tokens are not of the small form.
     NotYet,
     /// No memory was found.
     Memory,
 }
 
-impl From<LexErr> for Refusal {
-    ghost use Rattle.luf_work.specs.Refusals.{lex_refusal};
-    ghost use Rattle.std.specs.Prelude.{◌≡◌};
-
-    ghost from_gives = { λ e r. r ≡ lex_refusal e };
-
-    fn from(e: LexErr) -> Refusal {
-        match e {
-            LexErr::NotYet => Refusal::NotYet,
-            LexErr::Memory => Refusal::Memory,
-        }
-    }
-}
-
 impl From<SmallErr> for Refusal {
-    ghost use Rattle.luf_work.specs.Refusals.{small_refusal};
+    ghost use Rattle.luf_work.specs.Errors.{small_refusal};
     ghost use Rattle.std.specs.Prelude.{◌≡◌};
 
     ghost from_gives = { λ e r. r ≡ small_refusal e };

@@ -1,26 +1,24 @@
-use Rattle.std.proofs.Common.{◌+◌, ◌∷◌, [], ap, sym, subst, arith, length, length-drop, length-append, drop, refl}
-use Rattle.luf_lex.specs.Cut.{IsFirst, Cuts}
+use Rattle.std.proofs.Common.{◌≡◌, ◌++◌, ◌∷◌, [], length, length-append, length-drop, drop, sym, ap, ◌∙◌, subst, arith, append_assoc}
+use Rattle.luf_lex.specs.Cut.{head_of, head_end}
+use Rattle.luf_lex.specs.First.{IsFirst}
 use Rattle.luf_lex.specs.declared.token.Piece.{Piece}
-use Rattle.luf_lex.proofs.CutLemmas.{cuts_push, no_cut, tail_is}
+use Rattle.luf_lex.proofs.RunLemmas.{tail_is}
+use Rattle.luf_lex.proofs.CutLemmas.{cuts_next}
 use Rattle.luf_lex.proofs.cutting.cut.Goals as goal
-
-pub returns-in_default-clause-not_yet : goal.returns-in_default-clause-not_yet
-returns-in_default-clause-not_yet c =
-    let source = c.args.src.now in
-    λ _ others whole. no_cut source 0 c.loop-at.pieces.items c.loop-at.at c.loop-at.invariant.cut c.loop-at-test.true
-    (λ kind n h. c.in_default.ensures kind n (subst (λ t. IsFirst t kind n) (sym (tail_is source c.loop-at.at)) h)) others whole
 
 pub loop-at-preserved : goal.loop-at-preserved
 loop-at-preserved c =
     let source = c.args.src.now in
     let at = c.loop-at.at in
-    let len = c.in-Some.len in
-    let first : IsFirst (drop at source) c.in-Some.kind len = subst (λ t. IsFirst t c.in-Some.kind len) (tail_is source at) c.in-Some.ensures in
-    let piece : Piece = record { kind = c.in-Some.kind; span = record { from = at; to = at + len } } in
+    let len = c.in-Ok.piece.1 in
+    let first : IsFirst (drop at source) c.in-Ok.piece.0 len = subst (λ t. IsFirst t c.in-Ok.piece.0 len) (tail_is source at) c.in-Ok.ensures in
+    let kind : c.piece.result.kind ≡ c.in-Ok.piece.0 = ap (λ (p : Piece). p.kind) c.piece.ensures in
+    let same : IsFirst (drop at source) c.piece.result.kind len = subst (λ k. IsFirst (drop at source) k len) (sym kind) first in
+    let one : length (c.piece.result ∷ []) ≡ 1 = omega arith in
     record {
-      cut = subst (λ ps. Cuts source 0 ps (at + len)) (sym c.in_ok-push_piece.ensures.pieces)
-          (cuts_push source 0 c.loop-at.pieces.items at piece c.loop-at.invariant.cut refl (omega arith) (subst (λ n. IsFirst (drop at source) c.in-Some.kind n) (omega arith) first));
+      rest = c.loop-at.invariant.rest ++ c.piece.result ∷ [];
+      pieces = c.in_ok-push.ensures.items ∙ ap (λ ps. ps ++ c.piece.result ∷ []) c.loop-at.invariant.pieces ∙ append_assoc (head_of source) c.loop-at.invariant.rest (c.piece.result ∷ []);
+      cut = cuts_next source (head_end source) c.loop-at.invariant.rest at len c.piece.result c.loop-at.invariant.cut (ap (λ (p : Piece). p.span.from) c.piece.ensures) (ap (λ (p : Piece). p.span.to) c.piece.ensures) same;
       within = omega (arith, first.within, length-drop at source);
-      few = omega (arith, first.some, ap length c.in_ok-push_piece.ensures.pieces, length-append c.loop-at.pieces.items (piece ∷ []), c.loop-at.invariant.few);
-      index = c.in_ok-push_piece.ensures.index;
+      few = omega (arith, first.some, ap length c.in_ok-push.ensures.items, length-append c.loop-at.pieces.items (c.piece.result ∷ []), c.loop-at.invariant.few);
     }

@@ -1,15 +1,16 @@
-use Rattle.std.proofs.Common.{◌≡◌, ◌-◌, ◌≤◌, length}
-use Rattle.luf_lex.specs.Cut.{Cuts}
-use Rattle.luf_lex.specs.Tokens.{token_places}
+use Rattle.std.proofs.Common.{◌≡◌, ◌-◌, ◌≤◌, ◌++◌, List, length}
+use Rattle.luf_lex.specs.Cut.{Cuts, head_of, head_end}
+use Rattle.luf_lex.specs.declared.token.Piece.{Piece}
 use Rattle.luf_lex.proofs.cutting.cut.Given as goal
 
--- the pieces so far are the source so far
+-- behind the head, the pieces so far are the source so far
 abbrev pub invariant-loop-at : goal.invariant-loop-at
 invariant-loop-at l = record {
-  cut : Cuts l.src 0 l.pieces.items l.at;
+  rest : List Piece;
+  pieces : l.pieces.items ≡ head_of l.src ++ rest;
+  cut : Cuts l.src (head_end l.src) rest l.at;
   within : l.at ≤ length l.src;
   few : length l.pieces.items ≤ l.at;
-  index : l.tokens.items ≡ token_places 0 l.pieces.items;
 }
 
 abbrev pub decreases-loop-at : goal.decreases-loop-at

@@ -1,5 +1,5 @@
 use Rattle.std.proofs.Common.{arith}
-use Rattle.luf_lex.proofs.CutLemmas.{span_within, spelling_from}
+use Rattle.luf_lex.proofs.SpellingLemmas.{span_within, spelling_from}
 use Rattle.luf_lex.proofs.pieces.Cut.spelling.Goals as goal
 
 pub slice_bounds-result-count : goal.slice_bounds-result-count

@@ -1,0 +1,26 @@
+-- The lines that a run writes to errs. Our own rule.
+use Rattle.std.specs.Prelude.{ℕ, List, [], ◌∷◌, ◌++◌, codes, decimal, Option, Some, None}
+use Rattle.luf_lex.specs.declared.fault.LexWhat.{LexWhat}
+use Rattle.luf_lex.specs.declared.fault.LexWhat.TheVariants.{NoToken, BadNumeral, BadEscape, OpenString, OpenLong}
+use Rattle.luf_work.specs.declared.refusal.Refusal.{Refusal}
+use Rattle.luf_work.specs.declared.refusal.Refusal.TheVariants.{TooLarge, Lexical, NotYet, Memory}
+
+-- a line of errs, ended by LF
+abbrev pub line_of : List ℕ → List ℕ
+line_of text = text ++ 10 ∷ []
+
+-- the word of a lexical fault
+abbrev pub word_of : LexWhat → List ℕ
+word_of NoToken = codes "NoToken"
+word_of BadNumeral = codes "BadNumeral"
+word_of BadEscape = codes "BadEscape"
+word_of OpenString = codes "OpenString"
+word_of OpenLong = codes "OpenLong"
+
+-- What tells a refusal of the source from standard input, which is named `-`: its place, where it has one, and its
+-- word. Line and column are in decimal. Want of memory has no line.
+abbrev pub refusal_line : Refusal → Option (List ℕ)
+refusal_line TooLarge = Some (codes "-: TooLarge")
+refusal_line (Lexical place what) = Some (codes "-:" ++ decimal place.line ++ codes ":" ++ decimal place.column ++ codes ": " ++ word_of what)
+refusal_line NotYet = Some (codes "-: NotYet")
+refusal_line Memory = None

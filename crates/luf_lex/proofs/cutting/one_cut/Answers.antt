@@ -1,5 +1,0 @@
-use Rattle.luf_lex.proofs.OneCut as law
-use Rattle.luf_lex.proofs.cutting.one_cut.Goals as goal
-
-pub returns : goal.returns
-returns c = law.one_cut

@@ -1,0 +1,61 @@
+// What is tried at a place.
+ghost use Rattle.std.specs.Prelude.{◌≡◌};
+ghost use Rattle.luf_lex.specs.First as first;
+ghost use Rattle.luf_str.specs.Bytes.{is_quote};
+ghost use Rattle.luf_lex.specs.Byte.{begins};
+ghost use Rattle.luf_lex.specs.Group.{group_named};
+
+use crate::bracket::opens_long;
+use crate::byte::is_digit;
+
+/// What is tried at a place of a source: where a short string, a long bracket, a comment or a numeral begins,
+/// nothing else is.
+#[derive(Clone, Copy, Debug, PartialEq, Eq)]
+pub(crate) enum Tried {
+    ShortString,
+    LongString,
+    Comment,
+    Numeral,
+    Other,
+}
+
+/// What is tried where a text begins.
+pub(crate) fn group_at(text: &[u8]) -> Tried
+    ensures { first.group_of text.now ≡ group_named result }
+{
+    if begins_string(text) {
+        return Tried::ShortString;
+    }
+    if opens_long(text) {
+        return Tried::LongString;
+    }
+    if begins_comment(text) {
+        return Tried::Comment;
+    }
+    if begins_numeral(text) {
+        return Tried::Numeral;
+    }
+    Tried::Other
+}
+
+fn begins_string(text: &[u8]) -> bool
+    ensures { result ≡ begins is_quote text.now }
+{
+    matches!(text, [b'"' | b'\'', ..])
+}
+
+fn begins_comment(text: &[u8]) -> bool
+    ensures { result ≡ first.begins_comment text.now }
+{
+    matches!(text, [b'-', b'-', ..])
+}
+
+fn begins_numeral(text: &[u8]) -> bool
+    ensures { result ≡ first.begins_numeral text.now }
+{
+    match text {
+        [b'.', b, ..] => is_digit(*b),
+        [b, ..] => is_digit(*b),
+        [] => false,
+    }
+}

@@ -1,0 +1,14 @@
+pub mod Numbers
+pub mod Leading
+pub mod EscapeLaws
+pub mod FrontLaws
+pub mod InPlace
+pub mod UnitLaws
+pub mod Follows
+pub mod UnitReading
+pub mod LongLaws
+pub mod Unique
+pub mod Requoting
+pub mod Apart
+pub mod PartLaws
+pub mod Spelled

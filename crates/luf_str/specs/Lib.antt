@@ -1,0 +1,10 @@
+pub mod Bytes
+pub mod Pieces
+pub mod Escape
+pub mod Meaning
+pub mod Spelling
+pub mod Value
+pub mod Requote
+pub mod Reading
+pub mod Front
+pub mod ShortEnd

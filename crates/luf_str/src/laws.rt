@@ -1,0 +1,36 @@
+//! Laws of the definitions, each on an empty function.
+
+ghost use Rattle.std.specs.Prelude.{◌≡◌, ℕ, List, [], ◌++◌};
+ghost use Rattle.luf_str.specs.Requote.{IsRequoted};
+ghost use Rattle.luf_str.specs.Spelling.{IsSpelling};
+ghost use Rattle.luf_str.specs.Value.{IsValue, FirstBad};
+
+/// A string has at most one value.
+pub fn one_value()
+    ensures { (spelling value other : List ℕ) → IsValue spelling value → IsValue spelling other → value ≡ other }
+{}
+
+/// A string with a bad escape has no value.
+pub fn value_or_bad()
+    ensures { (spelling value : List ℕ) (at : ℕ) → IsValue spelling value → FirstBad spelling at → ⊥ }
+{}
+
+/// A string has at most one first bad escape.
+pub fn one_bad_place()
+    ensures { (spelling : List ℕ) (at other : ℕ) → FirstBad spelling at → FirstBad spelling other → at ≡ other }
+{}
+
+/// What has a value is a spelling.
+pub fn value_spelled()
+    ensures { (spelling value : List ℕ) → IsValue spelling value → IsSpelling spelling }
+{}
+
+/// No spelling is a proper front of another.
+pub fn spellings_apart()
+    ensures { (spelling more : List ℕ) → IsSpelling spelling → IsSpelling (spelling ++ more) → more ≡ [] }
+{}
+
+/// A string has at most one spelling in other quotes.
+pub fn one_requoted()
+    ensures { (spelling requoted other : List ℕ) (q : ℕ) → IsRequoted spelling q requoted → IsRequoted spelling q other → requoted ≡ other }
+{}
