@@ -1,5 +1,5 @@
 -- The tokens of the small form: which there are, and that no two `=` stand side by side.
-use Rattle.std.proofs.Common.{◌≡◌, ℕ, zero, suc, ◌+◌, ◌<◌, ◌≤◌, ◌⊎◌, inl, inr, Option, Some, None, List, [], ◌∷◌, length, refl, sym, ap, ◌∙◌, subst, arith}
+use Rattle.std.proofs.Common.{◌≡◌, ℕ, suc, ◌+◌, ◌<◌, ◌≤◌, ◌⊎◌, inl, inr, Option, Some, List, [], ◌∷◌, length, refl, sym, ap, ◌∙◌, subst, arith}
 use Rattle.std.specs.Prelude.{slice_get}
 use Rattle.std.proofs.lemmas.Bool.{cases_lt}
 use Rattle.luf_lex.specs.declared.token.Tok.{Tok}
@@ -9,7 +9,7 @@ use Rattle.luf_lex.specs.declared.token.Sign.TheVariants.{Assign}
 use Rattle.luf_tree.specs.declared.tree.Stat.{Stat}
 use Rattle.luf_tree.specs.declared.tree.ExprKind.{ExprKind}
 use Rattle.luf_tree.specs.Grammar.{At, IsExprKind, nil_kind, true_kind, false_kind, number_kind, name_kind, IsStats, no_stats, more_stats, last_stat}
-use Rattle.luf_tree.proofs.GrammarLemmas.{four, two, local_parts, return_parts, expr_end, stat_end, stats_grow}
+use Rattle.luf_tree.proofs.GrammarLemmas.{four, two, local_parts, return_parts, expr_end, stat_end}
 
 -- the tokens of the small form
 abbrev pub IsSmallTok : Tok → Type 0

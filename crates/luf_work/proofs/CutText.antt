@@ -1,19 +1,18 @@
 -- The text of tokens is cut into them again.
-use Rattle.std.proofs.Common.{◌≡◌, ℕ, zero, suc, ◌+◌, ◌-◌, ◌<◌, ◌≤◌, ◌⊎◌, inl, inr, Bool, true, false, cond, eqb, ◌&&◌, ◌||◌, List, [], ◌∷◌, ◌++◌, Option, Some, None, length, length-append, length-drop, append-nil, take, drop, get_or, reverse, refl, sym, ap, ◌∙◌, subst, arith, append_assoc}
-use Rattle.std.specs.List.{list_all, prefix_len, starts_with}
-use Rattle.std.specs.Prelude.{map, slice_range, slice_get, nat_eq}
+use Rattle.std.proofs.Common.{◌≡◌, ℕ, suc, ◌+◌, ◌-◌, ◌<◌, ◌≤◌, ◌⊎◌, inl, inr, Bool, true, false, cond, eqb, ◌&&◌, ◌||◌, List, [], ◌∷◌, ◌++◌, Some, length, length-append, length-drop, append-nil, take, drop, get_or, reverse, refl, sym, ap, ◌∙◌, subst, arith, append_assoc}
+use Rattle.std.specs.List.{list_all, prefix_len}
+use Rattle.std.specs.Prelude.{map, slice_range, slice_get}
 use Rattle.std.proofs.lemmas.List.{length-take-le}
 use Rattle.std.specs.Option.{option_to_list}
 use Rattle.std.proofs.lemmas.Option.{slice_get_within}
 use mathlib.Core.List.{reverse_aux}
-use Rattle.std.proofs.Math.Bool.{and-false}
 use Rattle.std.proofs.Math.Seq.{take-append_seam, drop-append_seam, drop-drop}
-use Rattle.std.proofs.lemmas.Bool.{and_left, and_right, or_left, or_right, and_parts, cond-true, cond-false, false_from_ne_true, and_from, or_parts, or_from, false≢true, eqb-true, eqb-false, ne_eqb}
+use Rattle.std.proofs.lemmas.Bool.{and_left, and_right, or_left, or_right, and_parts, cond-true, cond-false, false_from_ne_true, and_from, or_parts, or_from, false≢true, eqb-false}
 use Rattle.std.proofs.lemmas.Bool.Decides.{nat_tests}
 use Rattle.luf_num.specs.Digit.{is_digit, is_hex_digit}
 use Rattle.luf_num.specs.Numeral.{is_decimal_mark}
-use Rattle.luf_str.specs.Bytes.{is_quote, is_line_byte}
-use Rattle.luf_lex.specs.Byte.{is_letter, is_word_byte, is_blank, in_line, begins}
+use Rattle.luf_str.specs.Bytes.{is_quote}
+use Rattle.luf_lex.specs.Byte.{is_letter, is_word_byte, is_blank, begins}
 use Rattle.luf_lex.specs.Sign.{sign_spelling, Begins}
 use Rattle.luf_lex.specs.Spelling.{Spells, opens_long}
 use Rattle.luf_lex.specs.First.{IsFirst, is_tried, group_of, begins_comment, begins_numeral, begins_hexadecimal, numeral_tail, numeral_length, Quoted, Bracketed, Commented, Other, Numeric}
@@ -22,7 +21,7 @@ use Rattle.luf_lex.specs.Tokens.{is_token, tok_of, tokens_of, toks_of, spellings
 use Rattle.luf_lex.specs.declared.token.Tok.{Tok}
 use Rattle.luf_lex.specs.declared.token.Tok.TheVariants.{Name, Number, Word, Sign}
 use Rattle.luf_lex.specs.declared.token.Sign.{Sign as Mark}
-use Rattle.luf_lex.specs.declared.token.Sign.TheVariants.{Plus, Equal, Assign}
+use Rattle.luf_lex.specs.declared.token.Sign.TheVariants.{Equal, Assign}
 use Rattle.luf_lex.specs.declared.token.Kind.{Kind}
 use Rattle.luf_lex.specs.declared.token.Kind.TheVariants.{Token, Blank, HashLine}
 use Rattle.luf_lex.specs.declared.token.Kind.TheVariants.{Mark as ByteMark}
@@ -33,7 +32,7 @@ use Rattle.luf_lex.proofs.NumeralLemmas.{numeral_first}
 use Rattle.luf_tree.specs.declared.tree.Chunk.{Chunk}
 use Rattle.luf_tree.specs.Grammar.{IsBlock}
 use Rattle.luf_tree.specs.Small.{IsSmall, HasSmallNumbers}
-use Rattle.luf_tree.proofs.SmallTokens.{IsSmallTok, NoSignFirst, AreSmall, chunk_small}
+use Rattle.luf_tree.proofs.SmallTokens.{IsSmallTok, AreSmall, chunk_small}
 use Rattle.luf_work.specs.Minified.{has_hash_line, SameTokens}
 use Rattle.luf_work.specs.Text.{between, text_of}
 
@@ -105,7 +104,6 @@ ends_all p (b ∷ a) each some =
     let parts = and_parts (p b) (list_all p a) each in
     ends_onto p a (b ∷ []) parts.1 parts.0
 
-
 -- what does not go on from a token: for `=` another one, for any other a letter, a digit or a point
 abbrev pub goes_word : ℕ → Bool
 goes_word b = is_word_byte b || eqb b 46
@@ -125,7 +123,7 @@ letters_before t (b ∷ a) x tried h letter stop =
     let group : group_of (b ∷ (a ++ x)) ≡ Other = group_is b (a ++ x) (letter_quote b letter) signs.0 signs.1 signs.2 false signs.3 in
     let each : list_all is_word_byte (b ∷ a) ≡ true = word_spelled (Token t) (b ∷ a) tried h (letter_is_word b letter) in
     run_first is_word_byte word_spelled (b ∷ (a ++ x)) (Token t) (length (b ∷ a)) group tried (letter_is_word b letter) (sym (run_before is_word_byte (b ∷ a) x each stop))
-      (subst (λ s. Spells (Token t) s) (sym (take-append_seam (b ∷ a) x)) h)
+    (subst (λ s. Spells (Token t) s) (sym (take-append_seam (b ∷ a) x)) h)
 
 -- the scan of digits
 digit_step : (b : ℕ) (y : List ℕ) → is_digit b ≡ true → numeral_tail is_decimal_mark (b ∷ y) ≡ 1 + numeral_tail is_decimal_mark y
@@ -213,7 +211,6 @@ text_begins : (p : ℕ → Bool) (b : List ℕ) (rest : List (List ℕ)) → 0 <
 text_begins p b [] some = refl
 text_begins p b (c ∷ rest) some = ap (begins p) (append_assoc b (between b c) (text_of (c ∷ rest))) ∙ begins_append p b (between b c ++ text_of (c ∷ rest)) some
 
-
 -- a token is letters and digits, or `=`
 abbrev pub IsWord : List ℕ → Type 0
 IsWord a = (begins is_word_byte a ≡ true) × (list_all is_word_byte a ≡ true)
@@ -250,17 +247,17 @@ no_equal (c ∷ b) h = false_from_ne_true (is_equal c) (word_is_no_equal c h)
 
 -- what follows without a space does not go on from the token before
 stops_next : (t u : Tok) (a b : List ℕ) (rest : List (List ℕ)) → IsSmallTok t → IsSmallTok u → IsSpelledTok t a → IsSpelledTok u b → (t ≡ Sign Assign → u ≡ Sign Assign → ⊥)
-  → (begins is_word_byte (reverse a) && begins is_word_byte b) ≡ false → Stops t (text_of (b ∷ rest))
+    → (begins is_word_byte (reverse a) && begins is_word_byte b) ≡ false → Stops t (text_of (b ∷ rest))
 stops_next t u a b rest small_t small_u ht hu apart none = by_forms (token_form t a small_t ht) (token_form u b small_u hu)
   where
     by_forms : ((t ≡ Sign Assign → ⊥) × IsWord a) ⊎ ((t ≡ Sign Assign) × (a ≡ 61 ∷ [])) → ((u ≡ Sign Assign → ⊥) × IsWord b) ⊎ ((u ≡ Sign Assign) × (b ≡ 61 ∷ [])) → Stops t (text_of (b ∷ rest))
     by_forms (inl f) (inl g) =
-      let ends : begins is_word_byte (reverse a) ≡ true = ends_all is_word_byte a f.1.1 ht.2 in
-      absurd (false≢true (sym none ∙ and_from _ _ ends g.1.0))
+        let ends : begins is_word_byte (reverse a) ≡ true = ends_all is_word_byte a f.1.1 ht.2 in
+        absurd (false≢true (sym none ∙ and_from _ _ ends g.1.0))
     by_forms (inl f) (inr g) =
-      stops_word_tok t (text_of (b ∷ rest)) f.0 small_t (text_begins goes_word b rest hu.2 ∙ ap (begins goes_word) g.1)
+        stops_word_tok t (text_of (b ∷ rest)) f.0 small_t (text_begins goes_word b rest hu.2 ∙ ap (begins goes_word) g.1)
     by_forms (inr f) (inl g) =
-      subst (λ (v : Tok). Stops v (text_of (b ∷ rest))) (sym f.0) (text_begins is_equal b rest hu.2 ∙ no_equal b g.1.0)
+        subst (λ (v : Tok). Stops v (text_of (b ∷ rest))) (sym f.0) (text_begins is_equal b rest hu.2 ∙ no_equal b g.1.0)
     by_forms (inr f) (inr g) = absurd (apart f.0 g.0)
 
 -- one space before a letter or a digit is a piece
@@ -305,7 +302,6 @@ with_space source at x toks spellings e first rest = record {
   spellings_are = rest.spellings_are;
 }
 
-
 apart_of : (t u : Tok) (toks : List Tok) → AreSmall (t ∷ u ∷ toks) → t ≡ Sign Assign → u ≡ Sign Assign → ⊥
 apart_of t u toks small = small.1
 
@@ -316,7 +312,7 @@ text_cut source at (t ∷ toks) [] within small h e = absurd h
 text_cut source at (t ∷ []) (a ∷ []) within small h e =
     let all : drop at source ≡ a ++ [] = e ∙ sym (append-nil a) in
     with_token source at t a [] [] [] all (first_before t a [] small.0 h.0 (stops_nothing t))
-      (text_cut source (at + length a) [] [] (omega (arith, length-drop at source, ap length e)) tt tt (drop_past source a [] at all))
+    (text_cut source (at + length a) [] [] (omega (arith, length-drop at source, ap length e)) tt tt (drop_past source a [] at all))
 text_cut source at (t ∷ u ∷ toks) (a ∷ []) within small h e = absurd h.1
 text_cut source at (t ∷ []) (a ∷ b ∷ rest) within small h e = absurd h.1
 text_cut source at (t ∷ u ∷ toks) (a ∷ b ∷ rest) within small h e =
@@ -327,16 +323,16 @@ text_cut source at (t ∷ u ∷ toks) (a ∷ b ∷ rest) within small h e =
 
     by_join : (v : Bool) → (begins is_word_byte (reverse a) && begins is_word_byte b) ≡ v → ((at' : ℕ) → at' ≤ length source → drop at' source ≡ text_of (b ∷ rest) → TextCut source at' (u ∷ toks) (b ∷ rest)) → TextCut source at (t ∷ u ∷ toks) (a ∷ b ∷ rest)
     by_join true j later =
-      let word : begins is_word_byte b ≡ true = (and_parts (begins is_word_byte (reverse a)) (begins is_word_byte b) j).1 in
-      let starts : begins is_word_byte (text_of (b ∷ rest)) ≡ true = text_begins is_word_byte b rest h.1.0.2 ∙ word in
-      let all : drop at source ≡ a ++ (32 ∷ text_of (b ∷ rest)) = t_is true j in
-      let behind : drop (at + length a) source ≡ 32 ∷ text_of (b ∷ rest) = drop_past source a (32 ∷ text_of (b ∷ rest)) at all in
-      with_token source at t a (32 ∷ text_of (b ∷ rest)) (u ∷ toks) (b ∷ rest) all (first_before t a (32 ∷ text_of (b ∷ rest)) small.0 h.0 (stops_space t (text_of (b ∷ rest))))
+        let word : begins is_word_byte b ≡ true = (and_parts (begins is_word_byte (reverse a)) (begins is_word_byte b) j).1 in
+        let starts : begins is_word_byte (text_of (b ∷ rest)) ≡ true = text_begins is_word_byte b rest h.1.0.2 ∙ word in
+        let all : drop at source ≡ a ++ (32 ∷ text_of (b ∷ rest)) = t_is true j in
+        let behind : drop (at + length a) source ≡ 32 ∷ text_of (b ∷ rest) = drop_past source a (32 ∷ text_of (b ∷ rest)) at all in
+        with_token source at t a (32 ∷ text_of (b ∷ rest)) (u ∷ toks) (b ∷ rest) all (first_before t a (32 ∷ text_of (b ∷ rest)) small.0 h.0 (stops_space t (text_of (b ∷ rest))))
         (with_space source (at + length a) (text_of (b ∷ rest)) (u ∷ toks) (b ∷ rest) behind (space_before (text_of (b ∷ rest)) starts)
-          (later (at + length a + 1) (omega (arith, length-drop (at + length a) source, ap length behind)) (drop_past source (32 ∷ []) (text_of (b ∷ rest)) (at + length a) behind)))
+        (later (at + length a + 1) (omega (arith, length-drop (at + length a) source, ap length behind)) (drop_past source (32 ∷ []) (text_of (b ∷ rest)) (at + length a) behind)))
     by_join false j later =
-      let all : drop at source ≡ a ++ text_of (b ∷ rest) = t_is false j in
-      with_token source at t a (text_of (b ∷ rest)) (u ∷ toks) (b ∷ rest) all (first_before t a (text_of (b ∷ rest)) small.0 h.0 (stops_next t u a b rest small.0 small.2.0 h.0 h.1.0 small.1 j))
+        let all : drop at source ≡ a ++ text_of (b ∷ rest) = t_is false j in
+        with_token source at t a (text_of (b ∷ rest)) (u ∷ toks) (b ∷ rest) all (first_before t a (text_of (b ∷ rest)) small.0 h.0 (stops_next t u a b rest small.0 small.2.0 h.0 h.1.0 small.1 j))
         (later (at + length a) (omega (arith, length-drop at source, ap length all, length-append a (text_of (b ∷ rest)))) (drop_past source a (text_of (b ∷ rest)) at all))
 
 -- what begins a token of the small form begins no mark and no `#` line
@@ -396,9 +392,9 @@ behind_first t toks a spellings digits n b tok spelling =
     digits (n + 1) b (ap (λ i. slice_get (t ∷ toks) i) next ∙ tok) (ap (λ i. slice_get (a ∷ spellings) i) next ∙ spelling)
 
 kind_spelled : (source : List ℕ) (p : Piece) (k : Kind) → p.kind ≡ k → (rest : List Piece) → Spells p.kind (made_of source p) → 0 < length (made_of source p)
-  → (AreDigits (toks_of rest) (spellings_of source rest) → Spelled (toks_of rest) (spellings_of source rest))
-  → AreDigits (option_to_list (tok_of k) ++ toks_of rest) (map (made_of source) (cond (is_token k) (p ∷ tokens_of rest) (tokens_of rest)))
-  → Spelled (option_to_list (tok_of k) ++ toks_of rest) (map (made_of source) (cond (is_token k) (p ∷ tokens_of rest) (tokens_of rest)))
+    → (AreDigits (toks_of rest) (spellings_of source rest) → Spelled (toks_of rest) (spellings_of source rest))
+    → AreDigits (option_to_list (tok_of k) ++ toks_of rest) (map (made_of source) (cond (is_token k) (p ∷ tokens_of rest) (tokens_of rest)))
+    → Spelled (option_to_list (tok_of k) ++ toks_of rest) (map (made_of source) (cond (is_token k) (p ∷ tokens_of rest) (tokens_of rest)))
 kind_spelled source p (Token t) e rest h some later digits =
     ((subst (λ (k : Kind). Spells k (made_of source p)) e h, (λ number. digits 0 (made_of source p) (ap Some number) refl), some), later (behind_first t (toks_of rest) (made_of source p) (spellings_of source rest) digits))
 kind_spelled source p _ e rest h some later digits = later digits
@@ -411,14 +407,14 @@ cut_spelled source at [] to cut digits = tt
 cut_spelled source at (p ∷ pieces) to cut digits =
     let first : IsFirst (drop p.span.from source) p.kind (p.span.to - p.span.from) = subst (λ i. IsFirst (drop i source) p.kind (p.span.to - p.span.from)) (sym cut.0) cut.2 in
     kind_spelled source p p.kind refl pieces first.spelled (front_some source p (p.span.to - p.span.from) first.some first.within)
-      (λ later. cut_spelled source p.span.to pieces to cut.3 later) digits
+    (λ later. cut_spelled source p.span.to pieces to cut.3 later) digits
 
 -- the pieces of the head are no tokens
 head_tokens : (m n : ℕ) (rest : List Piece) → (toks_of (heads m n ++ rest) ≡ toks_of rest) × (tokens_of (heads m n ++ rest) ≡ tokens_of rest)
 head_tokens m n rest = by_tests (eqb m 0) (eqb n m)
   where
     by_tests : (v w : Bool) → (toks_of ((cond v [] (record { kind = ByteMark; span = record { from = 0; to = m } } ∷ []) ++ cond w [] (record { kind = HashLine; span = record { from = m; to = n } } ∷ [])) ++ rest) ≡ toks_of rest)
-      × (tokens_of ((cond v [] (record { kind = ByteMark; span = record { from = 0; to = m } } ∷ []) ++ cond w [] (record { kind = HashLine; span = record { from = m; to = n } } ∷ [])) ++ rest) ≡ tokens_of rest)
+        × (tokens_of ((cond v [] (record { kind = ByteMark; span = record { from = 0; to = m } } ∷ []) ++ cond w [] (record { kind = HashLine; span = record { from = m; to = n } } ∷ [])) ++ rest) ≡ tokens_of rest)
     by_tests true true = (refl, refl)
     by_tests true false = (refl, refl)
     by_tests false true = (refl, refl)

@@ -1,5 +1,5 @@
 -- When a source is not accepted.
-use Rattle.std.proofs.Common.{◌≡◌, ℕ, ◌≤◌, true, false, List, length, refl, sym, ap, ◌∙◌, subst}
+use Rattle.std.proofs.Common.{◌≡◌, ℕ, ◌≤◌, true, List, length, refl, sym, ap, ◌∙◌, subst}
 use Rattle.std.proofs.lemmas.Bool.{false≢true}
 use Rattle.luf_lex.specs.Cut.{IsCut}
 use Rattle.luf_lex.specs.declared.token.Piece.{Piece}
@@ -9,10 +9,9 @@ use Rattle.luf_tree.specs.declared.parse_small.SmallErr.{SmallErr}
 use Rattle.luf_tree.specs.declared.parse_small.SmallErr.TheVariants as small
 use Rattle.luf_tree.specs.Small.{IsSmall}
 use Rattle.luf_work.specs.Errors.{small_refusal}
-use Rattle.luf_work.specs.Minified.{has_hash_line, IsAccepted}
+use Rattle.luf_work.specs.Minified.{has_hash_line}
 use Rattle.luf_work.specs.Refusals.{IsNotYet, IsRefused}
 use Rattle.luf_work.specs.declared.refusal.Refusal.{Refusal}
-use Rattle.luf_work.specs.declared.refusal.Refusal.TheVariants.{NotYet}
 
 -- the pieces have a `#` line
 pub has_hash : (source : List ℕ) (pieces : List Piece) → IsCut source pieces → has_hash_line pieces ≡ true → IsNotYet source

@@ -3,9 +3,9 @@
 
 mod minify;
 mod refusal;
-mod text;
 #[cfg(test)]
 mod tests;
+mod text;
 
 pub use minify::minify_bytes;
 pub use refusal::Refusal;

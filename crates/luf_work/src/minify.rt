@@ -64,5 +64,7 @@ fn pieces_of(alloc: Global, src: &[u8]) -> Result<Cut, Refusal>
 fn has_hash_line(pieces: &[Piece]) -> bool
     ensures { result ≡ spec_has_hash_line pieces.now }
 {
-    pieces.iter().any(|piece| matches!(piece.kind, Kind::HashLine))
+    pieces
+        .iter()
+        .any(|piece| matches!(piece.kind, Kind::HashLine))
 }

@@ -15,7 +15,8 @@ returns-in-Err-clause-refused c =
     small_cause c.args.src.now c.in_ok-pieces.pieces c.in-Err.e c.from.result (omega (arith, c.if-src-gt-MOST.false)) c.in_ok-pieces.ensures.ok (λ e. c.in-Err.ensures.not_yet (ap Err e)) c.from.ensures
 
 pub returns-clause-same_tokens : goal.returns-clause-same_tokens
-returns-clause-same_tokens c =
-    (text_of (spellings_of c.args.src.now c.in_ok-pieces.pieces),
-      same_tokens c.args.src.now c.in_ok-pieces.pieces c.in_default.field-0 c.in_ok-pieces.ensures.ok (ap has_hash_line (sym c.pieces-2.ensures) ∙ sym c.has_hash_line.ensures ∙ c.if-has_hash_line.false) c.in_default.ensures.ok,
-      c.in_default-write_text.ensures.ok)
+returns-clause-same_tokens c = (
+  text_of (spellings_of c.args.src.now c.in_ok-pieces.pieces),
+  same_tokens c.args.src.now c.in_ok-pieces.pieces c.in_default.field-0 c.in_ok-pieces.ensures.ok (ap has_hash_line (sym c.pieces-2.ensures) ∙ sym c.has_hash_line.ensures ∙ c.if-has_hash_line.false) c.in_default.ensures.ok,
+  c.in_default-write_text.ensures.ok,
+)
