@@ -1,0 +1,64 @@
+"""What the measurements share: the programs, their seconds and their memory."""
+import os
+import shutil
+import subprocess
+import sys
+
+MIB = 1 << 20
+SIZES = [MIB // 2, MIB, 2 * MIB, 4 * MIB]
+RUNS = 3
+TIME = "/usr/bin/time"
+LUAFMT = [sys.argv[1], "minify"]
+LUAC = ["luac5.4", "-p", "-"] if shutil.which("luac5.4") else None
+ROW = "{:>8} {:>8} {:>9} {:>9} {:>9} {:>7} {:>7} {:>7} {:>7}".format
+
+
+def seconds(command, source, status_wanted=0):
+    """The least processor time of a few runs, each of which has to end with this status."""
+    best = None
+    for _ in range(RUNS):
+        with open(source) as stdin:
+            child = subprocess.Popen(command, stdin=stdin, stdout=subprocess.DEVNULL, stderr=subprocess.DEVNULL)
+            _, status, used = os.wait4(child.pid, 0)
+        child.returncode = os.waitstatus_to_exitcode(status)
+        if child.returncode != status_wanted:
+            sys.exit(f"{' '.join(command)}: status {child.returncode}")
+        time = used.ru_utime + used.ru_stime
+        best = time if best is None else min(best, time)
+    return best
+
+
+def peak_bytes(command, source):
+    """The peak of resident memory. (What wait4 tells begins at Python's own, so it would not do.)"""
+    with open(source) as stdin:
+        how = {"stdin": stdin, "stdout": subprocess.DEVNULL, "stderr": subprocess.PIPE}
+        ran = subprocess.run([TIME, "-f", "%M", *command], text=True, **how)
+    return 1024 * int(ran.stderr.splitlines()[-1])
+
+
+def cell(value, digits=1):
+    return "-" if value is None else f"{value:.{digits}f}"
+
+
+def print_head(most_of_luac):
+    if not LUAC:
+        print("luac5.4 is not installed: its columns are left out")
+    if not os.path.exists(TIME):
+        print(f"{TIME} is not installed: the memory column is left out")
+    print(ROW("bytes", "shape", "luafmt s", "luac s", "cat s", "/luac", "/cat", "growth", "memory"))
+    print(ROW("", "", "", "", "", f"<= {most_of_luac}", "", "2", "<= 40"))
+
+
+def print_row(shape, source, for_luac, before, status_wanted=0):
+    """Measures the programs on a source, and prints their row. The seconds of luafmt come back."""
+    size = os.path.getsize(source)
+    luafmt = seconds(LUAFMT, source, status_wanted)
+    cat = seconds(["cat"], source)
+    luac = seconds(LUAC, for_luac) if LUAC else None
+    memory = peak_bytes(LUAFMT, source) / size if os.path.exists(TIME) else None
+    print(ROW(
+        size, shape, cell(luafmt, 4), cell(luac, 4), cell(cat, 4),
+        cell(luac and luafmt / luac, 2), cell(luafmt / cat),
+        cell(before and luafmt / before, 2), cell(memory),
+    ), flush=True)
+    return luafmt
