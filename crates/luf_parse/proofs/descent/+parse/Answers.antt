@@ -1,0 +1,481 @@
+use Rattle.std.proofs.Common.{arith}
+use Rattle.luf_lex.specs.Tokens.{toks_of}
+use Rattle.luf_lex.specs.declared.token.Tok.TheVariants.{Word, Sign}
+use Rattle.luf_lex.specs.declared.token.Word.TheVariants as word
+use Rattle.luf_lex.specs.declared.token.Sign.TheVariants as sign
+use Rattle.luf_syntax.specs.Grammar.{AreArms, AreExprs, AreFields, AreStats, AreSteps, AreSuffixes, AreTargets, IsToken, last_field, last_stat, more_arms, more_exprs, more_fields, more_stats, more_steps, more_suffixes, more_targets, name_head, no_else, no_fields, no_for_step, no_stats, one_arm, one_expr, one_step, one_suffix, one_target, operand_expr, paren_head}
+use Rattle.luf_syntax.specs.Level.{expr_levels, field_levels, suffix_levels, step_levels, stat_levels, arm_levels}
+use Rattle.luf_syntax.proofs.LevelEquations.{step_of_levels}
+use Rattle.luf_parse.proofs.Joining.{joins_more, joins_last, joins_end, level_more}
+use Rattle.luf_parse.proofs.ExprParts.{made_block, made_body, made_args, string_arg_found, block_found, call_found, chain_found, dot_found, func_body_found, function_found, index_found, item_found, keyed_found, list_args_found, method_found, name_found, named_found, no_args_found, operand_found, operator_at, paren_found, power_found, prefix_found, return_nothing_found, return_values_found, simple_found, suffixed_found, table_arg_found, table_expr_found, table_found, unary_found, weaken, weaken_found}
+use Rattle.luf_parse.proofs.StatParts.{arm_found, assign_found, break_found, call_shaped, do_found, else_found, empty_found, for_found, for_in_found, for_step_found, function_stat_found, if_found, local_found, local_function_found, local_values_found, repeat_found, while_found}
+use Rattle.luf_parse.proofs.descent.+parse.Goals as goal
+
+pub arm-returns-clause-ok : goal.arm-returns-clause-ok
+arm-returns-clause-ok t c =
+    let h0 = c.in_ok-test.ensures in
+    let h1 = c.in_ok-inside.ensures in
+    let h2 = c.in_ok-inner.ensures in
+    let h3 = c.in_ok-body.ensures in
+    arm_found h0.ok h1.token h2.ok h3.ok
+
+pub arms-loop-found-preserved : goal.arms-loop-found-preserved
+arms-loop-found-preserved t c =
+    let h0 = c.in_ok-one.ensures in
+    let h1 = c.in-Some.ensures in
+    record {
+      joins = joins_more (AreArms (toks_of c.args.cut.now)) _ _ _ _ _ _ c.loop-found.invariant.joins c.in_ok-push.ensures.ok (λ k rest h. more_arms h0.ok.derived h1.token h);
+      forward = omega arith;
+      level = level_more arm_levels _ _ _ _ c.loop-found.invariant.level c.in_ok-push.ensures.ok h0.ok.level;
+    }
+
+pub arms-returns-in-None-clause-ok : goal.arms-returns-in-None-clause-ok
+arms-returns-in-None-clause-ok t c =
+    let h0 = c.in_ok-one.ensures in
+    record {
+      derived = joins_last (AreArms (toks_of c.args.cut.now)) _ _ _ _ _ _ c.loop-found.invariant.joins c.in_ok-push.ensures.ok (one_arm h0.ok.derived);
+      forward = omega arith;
+      within = omega arith;
+      level = level_more arm_levels _ _ _ _ c.loop-found.invariant.level c.in_ok-push.ensures.ok h0.ok.level;
+    }
+
+pub exprs-loop-found-preserved : goal.exprs-loop-found-preserved
+exprs-loop-found-preserved t c =
+    let h0 = c.in_ok-one.ensures in
+    let h1 = c.in-Some.ensures in
+    record {
+      joins = joins_more (AreExprs (toks_of c.args.cut.now)) _ _ _ _ _ _ c.loop-found.invariant.joins c.in_ok-push.ensures.ok (λ k rest h. more_exprs h0.ok.derived h1.token h);
+      forward = omega arith;
+      level = level_more expr_levels _ _ _ _ c.loop-found.invariant.level c.in_ok-push.ensures.ok h0.ok.level;
+    }
+
+pub exprs-returns-in-None-clause-ok : goal.exprs-returns-in-None-clause-ok
+exprs-returns-in-None-clause-ok t c =
+    let h0 = c.in_ok-one.ensures in
+    record {
+      derived = joins_last (AreExprs (toks_of c.args.cut.now)) _ _ _ _ _ _ c.loop-found.invariant.joins c.in_ok-push.ensures.ok (one_expr h0.ok.derived);
+      forward = omega arith;
+      within = omega arith;
+      level = level_more expr_levels _ _ _ _ c.loop-found.invariant.level c.in_ok-push.ensures.ok h0.ok.level;
+    }
+
+pub fields-fields-preserved : goal.fields-fields-preserved
+fields-fields-preserved t c =
+    let h0 = c.in_ok-one.ensures in
+    let h1 = c.in-Some.ensures in
+    record {
+      joins = joins_more (AreFields (toks_of c.args.cut.now)) _ _ _ _ _ _ c.fields.invariant.joins c.in_ok-push.ensures.ok (λ k rest h. more_fields h0.ok.derived h1.some h);
+      forward = omega arith;
+      within = omega arith;
+      level = level_more field_levels _ _ _ _ c.fields.invariant.level c.in_ok-push.ensures.ok h0.ok.level;
+    }
+
+pub fields-returns-in-None-clause-ok : goal.fields-returns-in-None-clause-ok
+fields-returns-in-None-clause-ok t c =
+    let h0 = c.in_ok-one.ensures in
+    record {
+      derived = joins_last (AreFields (toks_of c.args.cut.now)) _ _ _ _ _ _ c.fields.invariant.joins c.in_ok-push.ensures.ok (last_field h0.ok.derived);
+      forward = omega arith;
+      within = omega arith;
+      level = level_more field_levels _ _ _ _ c.fields.invariant.level c.in_ok-push.ensures.ok h0.ok.level;
+    }
+
+pub fields-returns-then-is_at-clause-ok : goal.fields-returns-then-is_at-clause-ok
+fields-returns-then-is_at-clause-ok t c =
+    record {
+      derived = joins_end (AreFields (toks_of c.args.cut.now)) _ _ _ c.fields.invariant.joins no_fields;
+      forward = omega arith;
+      within = omega arith;
+      level = c.fields.invariant.level;
+    }
+
+pub assign-returns-clause-ok : goal.assign-returns-clause-ok
+assign-returns-clause-ok t c =
+    let h0 = c.in_ok-targets.ensures in
+    let h1 = c.in_ok-from.ensures in
+    let h2 = c.in_ok-values.ensures in
+    assign_found h0.ok h1.token h2.ok
+
+pub block-loop-stats-preserved : goal.block-loop-stats-preserved
+block-loop-stats-preserved t c =
+    let h0 = c.in_ok-one.ensures in
+    record {
+      joins = joins_more (AreStats (toks_of c.args.cut.now)) _ _ _ _ _ _ c.loop-stats.invariant.joins c.in_ok-push.ensures.ok (λ k rest h. more_stats h0.ok.derived h);
+      forward = omega arith;
+      within = omega arith;
+      level = level_more stat_levels _ _ _ _ c.loop-stats.invariant.level c.in_ok-push.ensures.ok h0.ok.level;
+    }
+
+pub block-returns-then-is_at-clause-ok : goal.block-returns-then-is_at-clause-ok
+block-returns-then-is_at-clause-ok t c =
+    let h0 = c.in_ok-last.ensures in
+    made_block _ _ _ (block_found (joins_last (AreStats (toks_of c.args.cut.now)) _ _ _ _ _ _ c.loop-stats.invariant.joins c.in_ok-push-2.ensures.ok (last_stat h0.ok.derived)) (omega arith) h0.ok.within
+    (level_more stat_levels _ _ _ _ c.loop-stats.invariant.level c.in_ok-push-2.ensures.ok h0.ok.level))
+
+pub block-returns-clause-ok : goal.block-returns-clause-ok
+block-returns-clause-ok t c =
+    made_block _ _ _ (block_found (joins_end (AreStats (toks_of c.args.cut.now)) _ _ _ c.loop-stats.invariant.joins no_stats) c.loop-stats.invariant.forward c.loop-stats.invariant.within c.loop-stats.invariant.level)
+
+pub chain-loop-next-preserved : goal.chain-loop-next-preserved
+chain-loop-next-preserved t c =
+    let h0 = c.in-Some.ensures in
+    let h1 = c.in_ok-right.ensures in
+    let n = h0.token.next in
+    let t : IsToken (toks_of c.args.cut.now) c.loop-next.sign c.in-Some.field-0-0 c.in-Some.next = record { there = cc h0.token.there; next = omega (arith, h0.token.next, c.in-Some.next-is) } in
+    record {
+      joins = joins_more (AreSteps (toks_of c.args.cut.now) c.args.level) _ _ _ _ _ _ c.loop-next.invariant.joins c.in_ok-push.ensures.ok (λ k rest h. more_steps t (operator_at c.args.level t c.loop-next.invariant.next) h1.ok.derived h);
+      next = omega (arith, c.level_at.ensures.value);
+      forward = omega arith;
+      level = level_more step_levels _ _ _ _ c.loop-next.invariant.level c.in_ok-push.ensures.ok (omega (arith, step_of_levels c.loop-next.sign c.in_ok-right.right, h1.ok.level));
+    }
+
+pub chain-returns-then-level_at-level-clause-ok : goal.chain-returns-then-level_at-level-clause-ok
+chain-returns-then-level_at-level-clause-ok t c =
+    let h0 = c.in-Some.ensures in
+    let h1 = c.in_ok-right.ensures in
+    let n = h0.token.next in
+    let t : IsToken (toks_of c.args.cut.now) c.loop-next.sign c.in-Some.field-0-0 c.in-Some.next = record { there = cc h0.token.there; next = omega (arith, h0.token.next, c.in-Some.next-is) } in
+    chain_found c.requires.low c.requires.first (joins_last (AreSteps (toks_of c.args.cut.now) c.args.level) _ _ _ _ _ _ c.loop-next.invariant.joins c.in_ok-push.ensures.ok (one_step t (operator_at c.args.level t c.loop-next.invariant.next) h1.ok.derived))
+    (omega arith) h1.ok.within (level_more step_levels _ _ _ _ c.loop-next.invariant.level c.in_ok-push.ensures.ok (omega (arith, step_of_levels c.loop-next.sign c.in_ok-right.right, h1.ok.level))) c.in_ok-new.ensures
+
+pub count_stat-returns-clause-ok : goal.count_stat-returns-clause-ok
+count_stat-returns-clause-ok t c =
+    let h0 = c.in_ok-first.ensures in
+    let h1 = c.in_ok-second.ensures in
+    let h2 = c.in_ok-limit.ensures in
+    let h3 = c.in_ok-step.ensures in
+    let h4 = c.in_ok-inside.ensures in
+    let h5 = c.in_ok-body.ensures in
+    for_found c.requires.word c.requires.name c.requires.sign h0.ok h1.token h2.ok h3.ok h4.token h5.ok
+
+pub do_stat-returns-clause-ok : goal.do_stat-returns-clause-ok
+do_stat-returns-clause-ok t c =
+    let h0 = c.in_ok-body.ensures in
+    do_found c.requires.word h0.ok
+
+pub else_block-returns-clause-ok : goal.else_block-returns-clause-ok
+else_block-returns-clause-ok t c =
+    let h0 = c.in-Some.ensures in
+    let h1 = c.in_ok-inner.ensures in
+    let h2 = c.in_ok-body.ensures in
+    else_found h0.token h1.ok h2.ok
+
+pub else_block-returns-in_default-clause-ok : goal.else_block-returns-in_default-clause-ok
+else_block-returns-in_default-clause-ok t c =
+    let r = c.requires in record { derived = no_else; forward = omega arith; within = omega arith; level = omega arith }
+
+pub expr-levels-init : goal.expr-levels-init
+expr-levels-init t c =
+    let h0 = c.in_ok-whole.ensures in
+    record { part = operand_found h0.ok; least = operand_expr h0.ok.derived }
+
+pub expr-levels-preserved : goal.expr-levels-preserved
+expr-levels-preserved t c =
+    let h0 = c.in_ok-whole-2.ensures in
+    record {
+      part = weaken_found (omega (arith, h0.ends)) h0.ok;
+      least = weaken c.args.least (omega arith) h0.ok.derived;
+    }
+
+pub expr-returns-then-level-least-clause-ok : goal.expr-returns-then-level-least-clause-ok
+expr-returns-then-level-least-clause-ok t c =
+    record { derived = c.levels.invariant.least; forward = c.levels.invariant.part.forward; within = c.levels.invariant.part.within; level = c.levels.invariant.part.level }
+
+pub expr_stat-returns-in-Call-clause-ok : goal.expr_stat-returns-in-Call-clause-ok
+expr_stat-returns-in-Call-clause-ok t c =
+    let h0 = c.in_ok-first.ensures in
+    call_shaped c.in_ok-first.first.shape c.in-Call.is h0.ok h0.closed
+
+pub field-returns-clause-ok : goal.field-returns-clause-ok
+field-returns-clause-ok t c =
+    let h0 = c.in_ok-value-2.ensures in
+    item_found h0.ok
+
+pub field-returns-in-Some-eat-2-clause-ok : goal.field-returns-in-Some-eat-2-clause-ok
+field-returns-in-Some-eat-2-clause-ok t c =
+    let h0 = c.in-Some-eat.ensures in
+    let h1 = c.in-Some-eat-2.ensures in
+    let h2 = c.in_ok-value.ensures in
+    named_found h0.token h1.token h2.ok
+
+pub for_stat-returns-clause-ok : goal.for_stat-returns-clause-ok
+for_stat-returns-clause-ok t c =
+    let h0 = c.in_ok-names.ensures in
+    let h1 = c.in_ok-from.ensures in
+    let h2 = c.in_ok-values.ensures in
+    let h3 = c.in_ok-inside.ensures in
+    let h4 = c.in_ok-body.ensures in
+    for_in_found c.requires.word h0.ok h1.token h2.ok h3.token h4.ok
+
+pub for_step-returns-clause-ok : goal.for_step-returns-clause-ok
+for_step-returns-clause-ok t c =
+    let h0 = c.in-Some.ensures in
+    let h1 = c.in_ok-step.ensures in
+    for_step_found h0.token h1.ok
+
+pub for_step-returns-in_default-clause-ok : goal.for_step-returns-in_default-clause-ok
+for_step-returns-in_default-clause-ok t c =
+    let r = c.requires in record { derived = no_for_step; forward = omega arith; within = omega arith; level = omega arith }
+
+pub func_body-returns-clause-ok : goal.func_body-returns-clause-ok
+func_body-returns-clause-ok t c =
+    let h0 = c.in_ok-first.ensures in
+    let h1 = c.in_ok-params.ensures in
+    let h2 = c.in_ok-inside.ensures in
+    let h3 = c.in_ok-body.ensures in
+    let h4 = c.in_ok-to.ensures in
+    made_body _ _ _ _ _ (func_body_found h0.token h1.ok h2.token h3.ok h4.token h4.within)
+
+pub function-returns-clause-ok : goal.function-returns-clause-ok
+function-returns-clause-ok t c =
+    let h0 = c.in_ok-inner.ensures in
+    let h1 = c.in_ok-body.ensures in
+    function_found c.requires.word h0.ok h1.ok c.in_ok-new.ensures
+
+pub function_stat-returns-clause-ok : goal.function_stat-returns-clause-ok
+function_stat-returns-clause-ok t c =
+    let h0 = c.in_ok-inner.ensures in
+    let h1 = c.in_ok-path.ensures in
+    let h2 = c.in_ok-method.ensures in
+    let h3 = c.in_ok-body.ensures in
+    function_stat_found c.requires.word h0.ok h1.ok h2.ok h3.ok
+
+pub head-returns-clause-head : goal.head-returns-clause-head
+head-returns-clause-head t c =
+    let h0 = c.in_ok-expr.ensures in
+    paren_head h0.ok.derived
+
+pub head-returns-in-Some-clause-head : goal.head-returns-in-Some-clause-head
+head-returns-in-Some-clause-head t c =
+    let h0 = c.in-Some.ensures in
+    name_head h0.token
+
+pub head-returns-in-Some-clause-ok : goal.head-returns-in-Some-clause-ok
+head-returns-in-Some-clause-ok t c =
+    let h0 = c.in-Some.ensures in
+    name_found h0.token h0.within
+
+pub if_stat-returns-clause-ok : goal.if_stat-returns-clause-ok
+if_stat-returns-clause-ok t c =
+    let h0 = c.in_ok-arms.ensures in
+    let h1 = c.in_ok-last.ensures in
+    let h2 = c.in_ok-to.ensures in
+    if_found c.requires.word h0.ok h1.ok h2.token h2.within
+
+pub keyed-returns-clause-ok : goal.keyed-returns-clause-ok
+keyed-returns-clause-ok t c =
+    let h0 = c.in_ok-inner.ensures in
+    let h1 = c.in_ok-key.ensures in
+    let h2 = c.in_ok-close.ensures in
+    let h3 = c.in_ok-from.ensures in
+    let h4 = c.in_ok-value.ensures in
+    keyed_found c.requires.sign h0.ok h1.ok h2.token h3.token h4.ok
+
+pub last-returns-clause-ok : goal.last-returns-clause-ok
+last-returns-clause-ok t c =
+    let h0 = c.in_ok-next.ensures in
+    let h1 = c.in_ok-values.ensures in
+    return_values_found h0.token h1.ok c.semicolon-2.ensures
+
+pub last-returns-then-ends_block-clause-ok : goal.last-returns-then-ends_block-clause-ok
+last-returns-then-ends_block-clause-ok t c =
+    let h0 = c.in_ok-next.ensures in
+    return_nothing_found h0.token c.semicolon.ensures c.new.ensures
+
+pub list_args-returns-clause-ok : goal.list_args-returns-clause-ok
+list_args-returns-clause-ok t c =
+    let h0 = c.in_ok-inner.ensures in
+    let h1 = c.in_ok-items.ensures in
+    let h2 = c.in_ok-to.ensures in
+    made_args _ _ _ _ (list_args_found c.requires.sign h0.ok h1.ok h2.token h2.within)
+
+pub list_args-returns-in-Some-clause-ok : goal.list_args-returns-in-Some-clause-ok
+list_args-returns-in-Some-clause-ok t c =
+    let h0 = c.in_ok-inner.ensures in
+    let h1 = c.in-Some.ensures in
+    made_args _ _ _ _ (no_args_found _ c.requires.sign h0.ok h1.token h1.within c.new.ensures)
+
+pub local_stat-returns-clause-ok : goal.local_stat-returns-clause-ok
+local_stat-returns-clause-ok t c =
+    let h0 = c.in_ok-names.ensures in
+    let h1 = c.in-Some-eat.ensures in
+    let h2 = c.in_ok-values.ensures in
+    local_values_found c.requires.word h0.ok h1.token h2.ok
+
+pub local_stat-returns-in-Some-clause-ok : goal.local_stat-returns-in-Some-clause-ok
+local_stat-returns-in-Some-clause-ok t c =
+    let h0 = c.in-Some.ensures in
+    let h1 = c.in_ok-inside.ensures in
+    let h2 = c.in_ok-inner.ensures in
+    let h3 = c.in_ok-body.ensures in
+    local_function_found c.requires.word h0.token h1.token h2.ok h3.ok
+
+pub local_stat-returns-in_default-eat-clause-ok : goal.local_stat-returns-in_default-eat-clause-ok
+local_stat-returns-in_default-eat-clause-ok t c =
+    let h0 = c.in_ok-names.ensures in
+    local_found c.requires.word h0.ok c.new.ensures
+
+pub lone_arg-returns-in-Some-clause-ok : goal.lone_arg-returns-in-Some-clause-ok
+lone_arg-returns-in-Some-clause-ok t c =
+    let h0 = c.in-Some.ensures in
+    let h1 = c.in_ok-enter.ensures in
+    string_arg_found _ h0.some h0.forward h1.ok h0.within
+
+pub lone_arg-returns-clause-ok : goal.lone_arg-returns-clause-ok
+lone_arg-returns-clause-ok t c =
+    let h0 = c.in_ok-inner.ensures in
+    let h1 = c.in_ok-fields.ensures in
+    table_arg_found h0.ok h1.ok
+
+pub operand-returns-then-is_unary-clause-ok : goal.operand-returns-then-is_unary-clause-ok
+operand-returns-then-is_unary-clause-ok t c =
+    let h0 = c.in-Some.ensures in
+    let h1 = c.in_ok-inner.ensures in
+    let h2 = c.in_ok-operand.ensures in
+    let t : IsToken (toks_of c.args.cut.now) c.args.at c.in-Some.tok c.in-Some.next = record { there = cc (h0.token.there, c.in-Some.tok-is); next = omega (arith, h0.token.next, c.in-Some.next-is) } in
+    unary_found t (cc (c.is_unary.ensures, c.if-is_unary.true)) h1.ok h2.ok c.in_ok-new.ensures
+
+pub paren-returns-clause-ok : goal.paren-returns-clause-ok
+paren-returns-clause-ok t c =
+    let h0 = c.in_ok-next.ensures in
+    let h1 = c.in_ok-inner.ensures in
+    let h2 = c.in_ok-inside.ensures in
+    let h3 = c.in_ok-to.ensures in
+    paren_found h0.token h1.ok h2.ok h3.token h3.within c.in_ok-new.ensures
+
+pub power-returns-clause-ok : goal.power-returns-clause-ok
+power-returns-clause-ok t c =
+    let h0 = c.in_ok-base.ensures in
+    let h1 = c.in-Some.ensures in
+    let h2 = c.in_ok-inner.ensures in
+    let h3 = c.in_ok-exponent.ensures in
+    power_found h0.ok h1.token h2.ok h3.ok c.in_ok-new.ensures c.in_ok-new-2.ensures
+
+pub power-returns-in_default-clause-ok : goal.power-returns-in_default-clause-ok
+power-returns-in_default-clause-ok t c =
+    let h0 = c.in_ok-base.ensures in
+    simple_found h0.ok
+
+pub prefix-returns-clause-ok : goal.prefix-returns-clause-ok
+prefix-returns-clause-ok t c =
+    let h0 = c.in_ok-head.ensures in
+    let h1 = c.in_ok-found.ensures in
+    suffixed_found c.in_ok-found.calls c.suffixed.result c.suffixed.ensures h0.ok h0.head h1.ok c.in_ok-new.ensures
+
+pub repeat_stat-returns-clause-ok : goal.repeat_stat-returns-clause-ok
+repeat_stat-returns-clause-ok t c =
+    let h0 = c.in_ok-inner.ensures in
+    let h1 = c.in_ok-body.ensures in
+    let h2 = c.in_ok-from.ensures in
+    let h3 = c.in_ok-test.ensures in
+    repeat_found c.requires.word h0.ok h1.ok h2.token h3.ok
+
+pub stat-returns-in-Some-Sign-Semicolon-default-clause-ok : goal.stat-returns-in-Some-Sign-Semicolon-default-clause-ok
+stat-returns-in-Some-Sign-Semicolon-default-clause-ok t c =
+    let h0 = c.in-Some-Sign-Semicolon-default.ensures in
+    let t : IsToken (toks_of c.args.cut.now) c.args.at (Sign sign.Semicolon) c.in-Some-Sign-Semicolon-default.to = record { there = cc (h0.token.there, c.in-Some-Sign-Semicolon-default.field-0-0-is, c.in-Some-Sign-Semicolon-default.field-0-0-0-is); next = omega (arith, h0.token.next, c.in-Some-Sign-Semicolon-default.to-is) } in
+    empty_found t (omega (arith, h0.within, c.in-Some-Sign-Semicolon-default.to-is))
+
+pub stat-returns-in-Some-Word-Break-default-clause-ok : goal.stat-returns-in-Some-Word-Break-default-clause-ok
+stat-returns-in-Some-Word-Break-default-clause-ok t c =
+    let h0 = c.in-Some-Word-Break-default.ensures in
+    let t : IsToken (toks_of c.args.cut.now) c.args.at (Word word.Break) c.in-Some-Word-Break-default.to = record { there = cc (h0.token.there, c.in-Some-Word-Break-default.field-0-0-is, c.in-Some-Word-Break-default.field-0-0-0-is); next = omega (arith, h0.token.next, c.in-Some-Word-Break-default.to-is) } in
+    break_found t (omega (arith, h0.within, c.in-Some-Word-Break-default.to-is))
+
+pub suffix-returns-clause-ok : goal.suffix-returns-clause-ok
+suffix-returns-clause-ok t c =
+    let h0 = c.in_ok-given-2.ensures in
+    call_found h0.ok
+
+pub suffix-returns-in-Some-clause-ok : goal.suffix-returns-in-Some-clause-ok
+suffix-returns-in-Some-clause-ok t c =
+    let h0 = c.in-Some.ensures in
+    let h1 = c.in_ok-to.ensures in
+    dot_found h0.token h1.token h1.within
+
+pub suffix-returns-in-Some-eat-2-clause-ok : goal.suffix-returns-in-Some-eat-2-clause-ok
+suffix-returns-in-Some-eat-2-clause-ok t c =
+    let h0 = c.in-Some-eat-2.ensures in
+    let h1 = c.in_ok-after.ensures in
+    let h2 = c.in_ok-given.ensures in
+    method_found h0.token h1.token h2.ok
+
+pub suffix-returns-in-Some-eat-clause-ok : goal.suffix-returns-in-Some-eat-clause-ok
+suffix-returns-in-Some-eat-clause-ok t c =
+    let h0 = c.in-Some-eat.ensures in
+    let h1 = c.in_ok-inner.ensures in
+    let h2 = c.in_ok-key.ensures in
+    let h3 = c.in_ok-to-2.ensures in
+    index_found h0.token h1.ok h2.ok h3.token h3.within
+
+pub suffixes-loop-found-preserved : goal.suffixes-loop-found-preserved
+suffixes-loop-found-preserved t c =
+    let h0 = c.in_ok-one.ensures in
+    record {
+      joins = λ calls. joins_more (AreSuffixes (toks_of c.args.cut.now) calls) _ _ _ _ _ _ (c.loop-found.invariant.joins calls) c.in_ok-push.ensures.ok (λ k rest h. more_suffixes h0.ok.derived h);
+      forward = omega arith;
+      level = level_more suffix_levels _ _ _ _ c.loop-found.invariant.level c.in_ok-push.ensures.ok h0.ok.level;
+    }
+
+pub suffixes-returns-then-not-begins_suffix-clause-ok : goal.suffixes-returns-then-not-begins_suffix-clause-ok
+suffixes-returns-then-not-begins_suffix-clause-ok t c =
+    let h0 = c.in_ok-one.ensures in
+    record {
+      derived = joins_last (AreSuffixes (toks_of c.args.cut.now) c.in_ok-one.calls) _ _ _ _ _ _ (c.loop-found.invariant.joins c.in_ok-one.calls) c.in_ok-push.ensures.ok (one_suffix h0.ok.derived);
+      forward = omega arith;
+      within = omega arith;
+      level = level_more suffix_levels _ _ _ _ c.loop-found.invariant.level c.in_ok-push.ensures.ok h0.ok.level;
+    }
+
+pub table-returns-clause-ok : goal.table-returns-clause-ok
+table-returns-clause-ok t c =
+    let h0 = c.in_ok-first.ensures in
+    let h1 = c.in_ok-inner.ensures in
+    let h2 = c.in_ok-found.ensures in
+    let h3 = c.in_ok-to.ensures in
+    table_found h0.token h1.ok h2.ok h3.token h3.within
+
+pub table_expr-returns-clause-ok : goal.table_expr-returns-clause-ok
+table_expr-returns-clause-ok t c =
+    let h0 = c.in_ok-fields.ensures in
+    table_expr_found h0.ok
+
+pub targets-loop-found-preserved : goal.targets-loop-found-preserved
+targets-loop-found-preserved t c =
+    let h0 = c.in-Some.ensures in
+    let h1 = c.in_ok-one.ensures in
+    record {
+      joins = joins_more (AreTargets (toks_of c.args.cut.now)) _ _ _ _ _ _ c.loop-found.invariant.joins c.in_ok-push.ensures.ok (λ k rest h. more_targets c.loop-found.invariant.one.derived h0.token h);
+      one = h1.ok;
+      forward = omega arith;
+      level = level_more expr_levels _ _ _ _ c.loop-found.invariant.level c.in_ok-push.ensures.ok c.loop-found.invariant.one.level;
+    }
+
+pub targets-returns-in_default-clause-ok : goal.targets-returns-in_default-clause-ok
+targets-returns-in_default-clause-ok t c =
+    record {
+      derived = joins_last (AreTargets (toks_of c.args.cut.now)) _ _ _ _ _ _ c.loop-found.invariant.joins c.in_ok-push.ensures.ok (one_target c.loop-found.invariant.one.derived);
+      forward = omega arith;
+      within = omega arith;
+      level = level_more expr_levels _ _ _ _ c.loop-found.invariant.level c.in_ok-push.ensures.ok c.loop-found.invariant.one.level;
+    }
+
+pub while_stat-returns-clause-ok : goal.while_stat-returns-clause-ok
+while_stat-returns-clause-ok t c =
+    let h0 = c.in_ok-test.ensures in
+    let h1 = c.in_ok-inside.ensures in
+    let h2 = c.in_ok-body.ensures in
+    while_found c.requires.word h0.ok h1.token h2.ok
+
+pub simple-returns-clause-ok : goal.simple-returns-clause-ok
+simple-returns-clause-ok t c =
+    let h0 = c.in_ok-found.ensures in
+    prefix_found c.in_ok-found.found.shape h0.ok h0.closed
+
+pub simple-returns-in-Some-leaf-clause-ok : goal.simple-returns-in-Some-leaf-clause-ok
+simple-returns-in-Some-leaf-clause-ok t c =
+    let h0 = c.in-Some.ensures in
+    let h1 = c.in-Some-leaf.ensures in
+    let t : IsToken (toks_of c.args.cut.now) c.args.at c.in-Some.tok c.in-Some.to = record { there = cc (h0.token.there, c.in-Some.tok-is); next = omega (arith, h0.token.next, c.in-Some.to-is) } in
+    let leaf = h1 (toks_of c.args.cut.now) c.args.at c.in-Some.to t in
+    record { derived = leaf.0; forward = omega (arith, t.next); within = omega (arith, h0.within, c.in-Some.to-is); level = omega (arith, leaf.1) }

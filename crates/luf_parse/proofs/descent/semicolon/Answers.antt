@@ -1,0 +1,11 @@
+use Rattle.std.proofs.Common.{arith}
+use Rattle.luf_syntax.specs.Grammar.{no_semicolon, a_semicolon}
+use Rattle.luf_parse.proofs.descent.semicolon.Goals as goal
+
+pub returns-in-Some : goal.returns-in-Some
+returns-in-Some c =
+    let h0 = c.in-Some.ensures in
+    record { derived = a_semicolon h0.token; forward = omega arith; within = omega arith; level = omega arith }
+
+pub returns-in-None : goal.returns-in-None
+returns-in-None c = record { derived = no_semicolon; forward = omega arith; within = omega arith; level = omega arith }

@@ -1,0 +1,44 @@
+use Rattle.std.proofs.Common.{true, false, arith}
+use Rattle.luf_lex.specs.Tokens.{toks_of}
+use Rattle.luf_syntax.specs.Grammar.{AreNames, one_name, more_names, AreParams, no_params, dots_alone, names_alone, names_and_dots}
+use Rattle.luf_parse.proofs.Joining.{joins_none, joins_more, joins_last, nothing}
+use Rattle.luf_parse.proofs.names.params.Goals as goal
+
+pub loop-found-init : goal.loop-found-init
+loop-found-init c = record { joins = joins_none (AreNames (toks_of c.args.cut.now)) c.args.at _ c.new-found.ensures; forward = omega arith }
+
+pub loop-found-preserved : goal.loop-found-preserved
+loop-found-preserved c =
+    let h0 = c.in_ok-to.ensures in
+    let h1 = c.in-Some-eat.ensures in
+    record {
+      joins = joins_more (AreNames (toks_of c.args.cut.now)) _ _ _ _ _ _ c.loop-found.invariant.joins c.in_ok-push.ensures.ok (λ k rest h. more_names h0.token h1.token h);
+      forward = omega arith;
+    }
+
+pub loop-found-smaller : goal.loop-found-smaller
+loop-found-smaller c =
+    let h0 = c.in_ok-to.ensures in
+    let h1 = c.in-Some-eat.ensures in
+    omega arith
+
+pub returns-in-Some-clause-ok : goal.returns-in-Some-clause-ok
+returns-in-Some-clause-ok c =
+    let h0 = c.in-Some.ensures in
+    record { derived = nothing (λ names. AreParams (toks_of c.args.cut.now) c.args.at c.in-Some.to names true) _ c.new-found.ensures (dots_alone h0.token); forward = omega arith; within = omega arith; level = omega arith }
+
+pub returns-then-not-is_at-clause-ok : goal.returns-then-not-is_at-clause-ok
+returns-then-not-is_at-clause-ok c =
+    record { derived = nothing (λ names. AreParams (toks_of c.args.cut.now) c.args.at c.args.at names false) _ c.new-found.ensures no_params; forward = omega arith; within = omega arith; level = omega arith }
+
+pub returns-in_default-eat-clause-ok : goal.returns-in_default-eat-clause-ok
+returns-in_default-eat-clause-ok c =
+    let h0 = c.in_ok-to.ensures in
+    record { derived = names_alone (joins_last (AreNames (toks_of c.args.cut.now)) _ _ _ _ _ _ c.loop-found.invariant.joins c.in_ok-push.ensures.ok (one_name h0.token)); forward = omega arith; within = omega arith; level = omega arith }
+
+pub returns-in-Some-eat-2-clause-ok : goal.returns-in-Some-eat-2-clause-ok
+returns-in-Some-eat-2-clause-ok c =
+    let h0 = c.in_ok-to.ensures in
+    let h1 = c.in-Some-eat.ensures in
+    let h2 = c.in-Some-eat-2.ensures in
+    record { derived = names_and_dots (joins_last (AreNames (toks_of c.args.cut.now)) _ _ _ _ _ _ c.loop-found.invariant.joins c.in_ok-push.ensures.ok (one_name h0.token)) h1.token h2.token; forward = omega arith; within = omega arith; level = omega arith }

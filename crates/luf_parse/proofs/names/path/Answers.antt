@@ -1,0 +1,28 @@
+use Rattle.std.proofs.Common.{arith}
+use Rattle.luf_lex.specs.Tokens.{toks_of}
+use Rattle.luf_syntax.specs.Grammar.{IsPath, path_end, path_more}
+use Rattle.luf_parse.proofs.Joining.{joins_none, joins_more, joins_last}
+use Rattle.luf_parse.proofs.names.path.Goals as goal
+
+pub loop-found-init : goal.loop-found-init
+loop-found-init c = record { joins = joins_none (IsPath (toks_of c.args.cut.now)) c.args.at _ c.new-found.ensures; forward = omega arith }
+
+pub loop-found-preserved : goal.loop-found-preserved
+loop-found-preserved c =
+    let h0 = c.in_ok-to.ensures in
+    let h1 = c.in-Some.ensures in
+    record {
+      joins = joins_more (IsPath (toks_of c.args.cut.now)) _ _ _ _ _ _ c.loop-found.invariant.joins c.in_ok-push.ensures.ok (λ k rest h. path_more h0.token h1.token h);
+      forward = omega arith;
+    }
+
+pub loop-found-smaller : goal.loop-found-smaller
+loop-found-smaller c =
+    let h0 = c.in_ok-to.ensures in
+    let h1 = c.in-Some.ensures in
+    omega arith
+
+pub returns-in-None-clause-ok : goal.returns-in-None-clause-ok
+returns-in-None-clause-ok c =
+    let h0 = c.in_ok-to.ensures in
+    record { derived = joins_last (IsPath (toks_of c.args.cut.now)) _ _ _ _ _ _ c.loop-found.invariant.joins c.in_ok-push.ensures.ok (path_end h0.token); forward = omega arith; within = omega arith; level = omega arith }

@@ -1,0 +1,29 @@
+-- What kind of prefix expression was read.
+use Rattle.std.specs.Prelude.{◌≡◌, ℕ, Bool, true, false, List, [], ◌∷◌}
+use Rattle.luf_lex.specs.declared.token.Tok.{Tok}
+use Rattle.luf_syntax.specs.declared.tree.Expr.{Expr, out-Expr}
+use Rattle.luf_syntax.specs.declared.tree.Args.{Args, roll-Args}
+use Rattle.luf_syntax.specs.Grammar.{expression, IsToken, IsSimple, IsVariable, IsCall, IsParen}
+use Rattle.luf_syntax.specs.Level.{expr_levels}
+use Rattle.luf_syntax.specs.declared.tree.ExprKind.{ExprKind}
+use Rattle.luf_parse.specs.declared.descent.Shape.{Shape}
+use Rattle.luf_parse.specs.declared.descent.Shape.TheVariants.{Variable, Call, Paren}
+
+-- the tokens from i to j are a prefix expression of this shape
+abbrev pub IsShaped : List Tok → ℕ → ℕ → Shape → Expr → Type 0
+IsShaped toks i j Variable e = IsVariable toks i j e
+IsShaped toks i j Call e = IsCall toks i j e
+IsShaped toks i j Paren e = IsParen toks i j e
+
+-- the shape of a head with suffixes, the last of which makes a call or not
+abbrev pub suffixed_shape : Bool → Shape
+suffixed_shape true = Call
+suffixed_shape false = Variable
+
+-- a lone argument without parentheses
+abbrev pub lone_args : ℕ → Expr → Args
+lone_args at e = roll-Args (record { from = at; to = (out-Expr e).to; parens = false; items = e ∷ [] })
+
+-- a token of this kind is an expression by itself, and enters no level
+abbrev pub IsLeaf : Tok → ExprKind → Type 0
+IsLeaf tok kind = (toks : List Tok) (i j : ℕ) → IsToken toks i tok j → (IsSimple toks i j (expression i j kind) × (expr_levels (expression i j kind) ≡ 0))
