@@ -4,24 +4,24 @@ use Rattle.luf_lex.specs.declared.token.Tok.{Tok}
 use Rattle.luf_lex.specs.declared.token.Tok.TheVariants.{Name, Word, Sign}
 use Rattle.luf_lex.specs.declared.token.Word.TheVariants as word
 use Rattle.luf_lex.specs.declared.token.Sign.TheVariants as sign
-use Rattle.luf_syntax.specs.declared.tree.Block.{Block, roll-Block, out-Block}
-use Rattle.luf_syntax.specs.declared.tree.ExprKind.TheViews.{out-roll-Block, out-roll-FuncBody, out-roll-Args}
-use Rattle.luf_syntax.specs.declared.tree.Stat.{Stat}
-use Rattle.luf_syntax.specs.declared.tree.StatKind.TheVariants as stat
-use Rattle.luf_syntax.specs.declared.tree.FuncBody.{FuncBody, roll-FuncBody, out-FuncBody}
-use Rattle.luf_syntax.specs.declared.tree.Expr.{Expr}
-use Rattle.luf_syntax.specs.declared.tree.ExprKind.TheVariants as expr
-use Rattle.luf_syntax.specs.declared.tree.Step.{Step}
-use Rattle.luf_syntax.specs.declared.tree.Suffix.{Suffix}
-use Rattle.luf_syntax.specs.declared.tree.Suffix.TheVariants as suffix
-use Rattle.luf_syntax.specs.declared.tree.Args.{Args, roll-Args, out-Args}
-use Rattle.luf_syntax.specs.declared.tree.Field.{Field}
-use Rattle.luf_syntax.specs.declared.tree.Field.TheVariants as field
-use Rattle.luf_syntax.specs.Operator.{binary_level, is_unary}
-use Rattle.luf_syntax.specs.Level.{deepest, expr_levels, block_levels, stat_levels, field_levels, suffix_levels, step_levels, args_levels, body_levels}
-use Rattle.luf_syntax.specs.Grammar as g
-use Rattle.luf_syntax.specs.Grammar.{expression, statement, IsToken, IsString, IsClosed, IsExpr, AreSteps, IsOperand, IsSimple, IsPrefix, IsVariable, IsCall, IsParen, IsHead, AreSuffixes, IsSuffix, IsArgs, AreExprs, IsTable, AreFields, IsField, IsFuncBody, IsBlock, AreStats, IsReturn, IsStat, AreTargets, IsArm, AreArms, IsElse, IsForStep, IsSemicolon, AreNames, AreParams, AreDeclared, IsPath, IsMethod}
-use Rattle.luf_syntax.proofs.LevelEquations as lv
+use Rattle.luf_tree.specs.declared.tree.Block.{Block, roll-Block, out-Block}
+use Rattle.luf_tree.specs.declared.tree.ExprKind.TheViews.{out-roll-Block, out-roll-FuncBody, out-roll-Args}
+use Rattle.luf_tree.specs.declared.tree.Stat.{Stat}
+use Rattle.luf_tree.specs.declared.tree.StatKind.TheVariants as stat
+use Rattle.luf_tree.specs.declared.tree.FuncBody.{FuncBody, roll-FuncBody, out-FuncBody}
+use Rattle.luf_tree.specs.declared.tree.Expr.{Expr}
+use Rattle.luf_tree.specs.declared.tree.ExprKind.TheVariants as expr
+use Rattle.luf_tree.specs.declared.tree.Step.{Step}
+use Rattle.luf_tree.specs.declared.tree.Suffix.{Suffix}
+use Rattle.luf_tree.specs.declared.tree.Suffix.TheVariants as suffix
+use Rattle.luf_tree.specs.declared.tree.Args.{Args, roll-Args, out-Args}
+use Rattle.luf_tree.specs.declared.tree.Field.{Field}
+use Rattle.luf_tree.specs.declared.tree.Field.TheVariants as field
+use Rattle.luf_tree.specs.Operator.{binary_level, is_unary}
+use Rattle.luf_tree.specs.Level.{deepest, expr_levels, block_levels, stat_levels, field_levels, suffix_levels, step_levels, args_levels, body_levels}
+use Rattle.luf_tree.specs.Grammar as g
+use Rattle.luf_tree.specs.Grammar.{expression, statement, IsToken, IsString, IsClosed, IsExpr, AreSteps, IsOperand, IsSimple, IsPrefix, IsVariable, IsCall, IsParen, IsHead, AreSuffixes, IsSuffix, IsArgs, AreExprs, IsTable, AreFields, IsField, IsFuncBody, IsBlock, AreStats, IsReturn, IsStat, AreTargets, IsArm, AreArms, IsElse, IsForStep, IsSemicolon, AreNames, AreParams, AreDeclared, IsPath, IsMethod}
+use Rattle.luf_tree.proofs.LevelEquations as lv
 use Rattle.luf_parse.specs.Reads.{Found, level_at, level_of}
 use Rattle.luf_parse.specs.Shapes.{IsShaped, suffixed_shape, lone_args}
 use Rattle.luf_parse.specs.declared.descent.Shape.{Shape}

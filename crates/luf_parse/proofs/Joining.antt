@@ -1,6 +1,6 @@
 -- A list that is read part by part: what was read stands before what is left.
 use Rattle.std.proofs.Common.{◌≡◌, ℕ, ◌≤◌, List, [], ◌∷◌, ◌++◌, map, max, refl, sym, subst, ap, arith, append_assoc, append-nil}
-use Rattle.luf_syntax.specs.Level.{deepest}
+use Rattle.luf_tree.specs.Level.{deepest}
 
 -- any rest that is derived from a place completes the list that began at another
 abbrev pub Joins : {A : Type 0} → (ℕ → ℕ → List A → Type 0) → ℕ → ℕ → List A → Type 0

@@ -5,16 +5,16 @@ use Rattle.luf_lex.specs.declared.token.Tok.{Tok}
 use Rattle.luf_lex.specs.declared.token.Tok.TheVariants.{Name, Word, Sign}
 use Rattle.luf_lex.specs.declared.token.Word.TheVariants as word
 use Rattle.luf_lex.specs.declared.token.Sign.TheVariants as sign
-use Rattle.luf_syntax.specs.declared.tree.Declared.{Declared}
-use Rattle.luf_syntax.specs.declared.tree.Block.{Block}
-use Rattle.luf_syntax.specs.declared.tree.StatKind.TheVariants as stat
-use Rattle.luf_syntax.specs.declared.tree.Arm.{Arm, roll-Arm}
-use Rattle.luf_syntax.specs.declared.tree.FuncBody.{FuncBody}
-use Rattle.luf_syntax.specs.declared.tree.Expr.{Expr}
-use Rattle.luf_syntax.specs.Level.{deepest, if_there, block_if_there, expr_levels, block_levels, stat_levels, arm_levels, body_levels}
-use Rattle.luf_syntax.specs.Grammar as g
-use Rattle.luf_syntax.specs.Grammar.{expression, statement, IsToken, IsString, IsClosed, IsExpr, AreSteps, IsOperand, IsSimple, IsPrefix, IsVariable, IsCall, IsParen, IsHead, AreSuffixes, IsSuffix, IsArgs, AreExprs, IsTable, AreFields, IsField, IsFuncBody, IsBlock, AreStats, IsReturn, IsStat, AreTargets, IsArm, AreArms, IsElse, IsForStep, IsSemicolon, AreNames, AreParams, AreDeclared, IsPath, IsMethod}
-use Rattle.luf_syntax.proofs.LevelEquations as lv
+use Rattle.luf_tree.specs.declared.tree.Declared.{Declared}
+use Rattle.luf_tree.specs.declared.tree.Block.{Block}
+use Rattle.luf_tree.specs.declared.tree.StatKind.TheVariants as stat
+use Rattle.luf_tree.specs.declared.tree.Arm.{Arm, roll-Arm}
+use Rattle.luf_tree.specs.declared.tree.FuncBody.{FuncBody}
+use Rattle.luf_tree.specs.declared.tree.Expr.{Expr}
+use Rattle.luf_tree.specs.Level.{deepest, if_there, block_if_there, expr_levels, block_levels, stat_levels, arm_levels, body_levels}
+use Rattle.luf_tree.specs.Grammar as g
+use Rattle.luf_tree.specs.Grammar.{expression, statement, IsToken, IsString, IsClosed, IsExpr, AreSteps, IsOperand, IsSimple, IsPrefix, IsVariable, IsCall, IsParen, IsHead, AreSuffixes, IsSuffix, IsArgs, AreExprs, IsTable, AreFields, IsField, IsFuncBody, IsBlock, AreStats, IsReturn, IsStat, AreTargets, IsArm, AreArms, IsElse, IsForStep, IsSemicolon, AreNames, AreParams, AreDeclared, IsPath, IsMethod}
+use Rattle.luf_tree.proofs.LevelEquations as lv
 use Rattle.luf_parse.specs.Reads.{Found}
 use Rattle.luf_parse.specs.declared.descent.Shape.{Shape}
 use Rattle.luf_parse.specs.declared.descent.Shape.TheVariants as shape

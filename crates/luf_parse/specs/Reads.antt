@@ -4,7 +4,7 @@ use Rattle.luf_lex.specs.declared.token.Tok.{Tok}
 use Rattle.luf_lex.specs.declared.token.Tok.TheVariants as tok
 use Rattle.luf_lex.specs.declared.token.Sign.{Sign}
 use Rattle.luf_lex.specs.declared.token.Sign.TheVariants as sign
-use Rattle.luf_syntax.specs.Operator.{binary_level}
+use Rattle.luf_tree.specs.Operator.{binary_level}
 use Rattle.luf_parse.specs.declared.error.ParseErr.{ParseErr}
 use Rattle.luf_parse.specs.declared.error.ParseErr.TheVariants as error
 

@@ -1,11 +1,11 @@
 -- What kind of prefix expression was read.
 use Rattle.std.specs.Prelude.{◌≡◌, ℕ, Bool, true, false, List, [], ◌∷◌}
 use Rattle.luf_lex.specs.declared.token.Tok.{Tok}
-use Rattle.luf_syntax.specs.declared.tree.Expr.{Expr, out-Expr}
-use Rattle.luf_syntax.specs.declared.tree.Args.{Args, roll-Args}
-use Rattle.luf_syntax.specs.Grammar.{expression, IsToken, IsSimple, IsVariable, IsCall, IsParen}
-use Rattle.luf_syntax.specs.Level.{expr_levels}
-use Rattle.luf_syntax.specs.declared.tree.ExprKind.{ExprKind}
+use Rattle.luf_tree.specs.declared.tree.Expr.{Expr, out-Expr}
+use Rattle.luf_tree.specs.declared.tree.Args.{Args, roll-Args}
+use Rattle.luf_tree.specs.Grammar.{expression, IsToken, IsSimple, IsVariable, IsCall, IsParen}
+use Rattle.luf_tree.specs.Level.{expr_levels}
+use Rattle.luf_tree.specs.declared.tree.ExprKind.{ExprKind}
 use Rattle.luf_parse.specs.declared.descent.Shape.{Shape}
 use Rattle.luf_parse.specs.declared.descent.Shape.TheVariants.{Variable, Call, Paren}
 

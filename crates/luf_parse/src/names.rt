@@ -1,13 +1,13 @@
 // Lists of names.
 ghost use Rattle.std.specs.Prelude.{◌≡◌, ◌+◌, ◌<◌, ◌≤◌, length, IfOk, IfErr};
 ghost use Rattle.luf_lex.specs.Tokens.{toks_of};
-ghost use Rattle.luf_syntax.specs.Grammar.{AreNames, AreParams, IsAttribute, AreDeclared, IsPath, IsMethod};
+ghost use Rattle.luf_tree.specs.Grammar.{AreNames, AreParams, IsAttribute, AreDeclared, IsPath, IsMethod};
 ghost use Rattle.luf_parse.specs.Reads.{IsRefusal, Found};
 
 use crate::ParseErr;
 use crate::tokens::{eat, expect};
 use luf_lex::{Cut, Sign, Tok};
-use luf_syntax::Declared;
+use luf_tree::Declared;
 use sqlite_items::Items;
 use std::alloc::Global;
 

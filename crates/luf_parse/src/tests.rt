@@ -2,7 +2,7 @@
 
 use crate::{ParseErr, parse};
 use luf_lex::cut;
-use luf_syntax::{Chunk, depth};
+use luf_tree::{Chunk, depth};
 use std::alloc::Global;
 use std::process::Abort;
 use std::test::Fail;

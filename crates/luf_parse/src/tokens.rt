@@ -1,8 +1,8 @@
 // One token at a time.
 ghost use Rattle.std.specs.Prelude.{◌≡◌, ◌+◌, ◌<◌, ◌≤◌, ◌↔◌, length, slice_get, IsTrue, IfOk, IfErr, IfSome, IfNone};
 ghost use Rattle.luf_lex.specs.Tokens.{toks_of};
-ghost use Rattle.luf_syntax.specs.Grammar.{At, IsToken};
-ghost use Rattle.luf_syntax.specs.Operator as operator;
+ghost use Rattle.luf_tree.specs.Grammar.{At, IsToken};
+ghost use Rattle.luf_tree.specs.Operator as operator;
 ghost use Rattle.luf_parse.specs.Reads as reads;
 ghost use Rattle.luf_parse.specs.Reads.{IsRefusal, level_at};
 

@@ -1,15 +1,15 @@
 // The tree of all tokens.
 ghost use Rattle.std.specs.Prelude.{◌≤◌, IfOk, IfErr};
 ghost use Rattle.luf_lex.specs.Tokens.{toks_of};
-ghost use Rattle.luf_syntax.specs.Grammar.{IsChunk};
-ghost use Rattle.luf_syntax.specs.Level.{depth_of};
+ghost use Rattle.luf_tree.specs.Grammar.{IsChunk};
+ghost use Rattle.luf_tree.specs.Level.{depth_of};
 ghost use Rattle.luf_parse.specs.Reads.{IsRefusal};
 
 use crate::ParseErr;
 use crate::descent::block;
 use crate::tokens::refusal;
 use luf_lex::Cut;
-use luf_syntax::Chunk;
+use luf_tree::Chunk;
 use std::alloc::Global;
 
 /// How many levels a tree may nest below its main block.

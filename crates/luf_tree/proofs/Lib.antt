@@ -1,3 +1,2 @@
-pub mod NumberLemmas
-pub mod GrammarLemmas
-pub mod SmallTokens
+pub mod LevelLemmas
+pub mod LevelEquations

@@ -1,3 +1,3 @@
-pub mod Number
+pub mod Operator
 pub mod Grammar
-pub mod Small
+pub mod Level

@@ -1,11 +1,11 @@
 //! The tree of a source: its statements and expressions, with the numbers of their tokens.
 #![tactic(auto)]
 
-mod number;
-mod parse_small;
-#[cfg(test)]
-mod tests;
+mod read;
 mod tree;
 
-pub use parse_small::{SmallErr, small};
-pub use tree::{Block, Chunk, Declared, Expr, ExprKind, Stat, StatKind};
+pub use read::{depth, first_token, last_token};
+pub use tree::{
+    Args, Arm, Block, Chunk, Declared, Expr, ExprKind, Field, FuncBody, Stat, StatKind, Step,
+    Suffix,
+};

@@ -1,6 +1,6 @@
-// The tree. All numbers are token numbers; `to` is one past the last token.
+// The tree. All numbers are token numbers; `from` is the first token of a part and `to` one past its last.
 
-use sqlite_items::Items;
+use sqlite_items::{Boxed, Items};
 
 /// A whole source.
 #[derive(Debug, Drop)]
@@ -9,6 +9,7 @@ pub struct Chunk {
 }
 
 /// Statements in order.
+#[cycle(tree)]
 #[derive(Debug, Drop)]
 pub struct Block {
     pub from: u32,
@@ -17,6 +18,7 @@ pub struct Block {
 }
 
 /// A statement.
+#[cycle(tree)]
 #[derive(Debug, Drop)]
 pub struct Stat {
     pub from: u32,
@@ -25,12 +27,59 @@ pub struct Stat {
 }
 
 /// What a statement does.
+#[cycle(tree)]
 #[derive(Debug, Drop)]
 pub enum StatKind {
+    /// A `;` by itself.
+    Empty,
     Local {
         names: Items<Declared>,
         values: Items<Expr>,
     },
+    Assign {
+        targets: Items<Expr>,
+        values: Items<Expr>,
+    },
+    Call(Expr),
+    Do(Block),
+    While {
+        test: Expr,
+        body: Block,
+    },
+    Repeat {
+        body: Block,
+        test: Expr,
+    },
+    /// The arms of `if` and of each `elseif`, and the block of `else`.
+    If {
+        arms: Items<Arm>,
+        last: Option<Block>,
+    },
+    For {
+        name: u32,
+        first: Expr,
+        limit: Expr,
+        step: Option<Expr>,
+        body: Block,
+    },
+    ForIn {
+        names: Items<u32>,
+        values: Items<Expr>,
+        body: Block,
+    },
+    /// `function a.b:c`: the path is `a`, `b`, and the method `c`.
+    Function {
+        path: Items<u32>,
+        method: Option<u32>,
+        body: FuncBody,
+    },
+    LocalFunction {
+        name: u32,
+        body: FuncBody,
+    },
+    Label(u32),
+    Goto(u32),
+    Break,
     Return(Items<Expr>),
 }
 
@@ -41,7 +90,27 @@ pub struct Declared {
     pub attribute: Option<u32>,
 }
 
+/// A condition and the block behind its `then`.
+#[cycle(tree)]
+#[derive(Debug, Drop)]
+pub struct Arm {
+    pub test: Expr,
+    pub body: Block,
+}
+
+/// A function from the `(` of its parameters to its `end`.
+#[cycle(tree)]
+#[derive(Debug, Drop)]
+pub struct FuncBody {
+    pub from: u32,
+    pub to: u32,
+    pub params: Items<u32>,
+    pub vararg: bool,
+    pub body: Block,
+}
+
 /// An expression.
+#[cycle(tree)]
 #[derive(Debug, Drop)]
 pub struct Expr {
     pub from: u32,
@@ -50,11 +119,71 @@ pub struct Expr {
 }
 
 /// What an expression is.
+#[cycle(tree)]
 #[derive(Debug, Drop)]
 pub enum ExprKind {
     Nil,
     True,
     False,
     Number,
+    Str,
+    Vararg,
     Name,
+    Paren(Boxed<Expr>),
+    Function(Boxed<FuncBody>),
+    Table(Items<Field>),
+    Unary(Boxed<Expr>),
+    /// Operands with operators of one level of precedence between them, at least one.
+    Chain {
+        first: Boxed<Expr>,
+        rest: Items<Step>,
+    },
+    /// `base ^ exponent`; `sign` is the `^`.
+    Power {
+        base: Boxed<Expr>,
+        sign: u32,
+        exponent: Boxed<Expr>,
+    },
+    /// A name or a parenthesised expression, and what follows it, at least one suffix.
+    Suffixed {
+        head: Boxed<Expr>,
+        suffixes: Items<Suffix>,
+    },
+}
+
+/// An operator of a chain and its right operand.
+#[cycle(tree)]
+#[derive(Debug, Drop)]
+pub struct Step {
+    pub sign: u32,
+    pub right: Expr,
+}
+
+/// What continues a prefix expression.
+#[cycle(tree)]
+#[derive(Debug, Drop)]
+pub enum Suffix {
+    Dot(u32),
+    Index(Expr),
+    Call(Args),
+    Method { name: u32, args: Args },
+}
+
+/// The arguments of a call: in parentheses, or one string or table without.
+#[cycle(tree)]
+#[derive(Debug, Drop)]
+pub struct Args {
+    pub from: u32,
+    pub to: u32,
+    pub parens: bool,
+    pub items: Items<Expr>,
+}
+
+/// A field of a table.
+#[cycle(tree)]
+#[derive(Debug, Drop)]
+pub enum Field {
+    Item(Expr),
+    Named { name: u32, value: Expr },
+    Keyed { key: Expr, value: Expr },
 }

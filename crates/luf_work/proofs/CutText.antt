@@ -29,10 +29,10 @@ use Rattle.luf_lex.specs.declared.token.Piece.{Piece}
 use Rattle.luf_lex.proofs.RunLemmas.{begins_weaker, all_weaker}
 use Rattle.luf_lex.proofs.PlainLemmas.{blank_is_no_word, letter_is_word, keyword_letter, word_spelled, run_first, blank_first, sign_first}
 use Rattle.luf_lex.proofs.NumeralLemmas.{numeral_first}
-use Rattle.luf_tree.specs.declared.tree.Chunk.{Chunk}
-use Rattle.luf_tree.specs.Grammar.{IsBlock}
-use Rattle.luf_tree.specs.Small.{IsSmall, HasSmallNumbers}
-use Rattle.luf_tree.proofs.SmallTokens.{IsSmallTok, AreSmall, chunk_small}
+use Rattle.luf_small.specs.declared.tree.Chunk.{Chunk}
+use Rattle.luf_small.specs.Grammar.{IsBlock}
+use Rattle.luf_small.specs.Small.{IsSmall, HasSmallNumbers}
+use Rattle.luf_small.proofs.SmallTokens.{IsSmallTok, AreSmall, chunk_small}
 use Rattle.luf_work.specs.Minified.{has_hash_line, SameTokens}
 use Rattle.luf_work.specs.Text.{between, text_of}
 

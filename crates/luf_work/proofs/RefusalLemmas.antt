@@ -4,10 +4,10 @@ use Rattle.std.proofs.lemmas.Bool.{false≢true}
 use Rattle.luf_lex.specs.Cut.{IsCut}
 use Rattle.luf_lex.specs.declared.token.Piece.{Piece}
 use Rattle.luf_lex.proofs.OneCut.{one_cut}
-use Rattle.luf_tree.specs.declared.tree.Chunk.{Chunk}
-use Rattle.luf_tree.specs.declared.parse_small.SmallErr.{SmallErr}
-use Rattle.luf_tree.specs.declared.parse_small.SmallErr.TheVariants as small
-use Rattle.luf_tree.specs.Small.{IsSmall}
+use Rattle.luf_small.specs.declared.tree.Chunk.{Chunk}
+use Rattle.luf_small.specs.declared.parse_small.SmallErr.{SmallErr}
+use Rattle.luf_small.specs.declared.parse_small.SmallErr.TheVariants as small
+use Rattle.luf_small.specs.Small.{IsSmall}
 use Rattle.luf_work.specs.Errors.{small_refusal}
 use Rattle.luf_work.specs.Minified.{has_hash_line}
 use Rattle.luf_work.specs.Refusals.{IsNotYet, IsRefused}

@@ -1,6 +1,6 @@
 -- The refusal that an error of a part becomes.
-use Rattle.luf_tree.specs.declared.parse_small.SmallErr.{SmallErr}
-use Rattle.luf_tree.specs.declared.parse_small.SmallErr.TheVariants as small
+use Rattle.luf_small.specs.declared.parse_small.SmallErr.{SmallErr}
+use Rattle.luf_small.specs.declared.parse_small.SmallErr.TheVariants as small
 use Rattle.luf_work.specs.declared.refusal.Refusal.{Refusal}
 use Rattle.luf_work.specs.declared.refusal.Refusal.TheVariants.{NotYet, Memory}
 

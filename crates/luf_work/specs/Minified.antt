@@ -6,8 +6,8 @@ use Rattle.luf_lex.specs.Tokens.{toks_of, spellings_of}
 use Rattle.luf_lex.specs.declared.token.Kind.{Kind}
 use Rattle.luf_lex.specs.declared.token.Kind.TheVariants.{HashLine}
 use Rattle.luf_lex.specs.declared.token.Piece.{Piece}
-use Rattle.luf_tree.specs.declared.tree.Chunk.{Chunk}
-use Rattle.luf_tree.specs.Small.{IsSmall}
+use Rattle.luf_small.specs.declared.tree.Chunk.{Chunk}
+use Rattle.luf_small.specs.Small.{IsSmall}
 use Rattle.luf_work.specs.Text.{text_of}
 
 abbrev pub is_hash_line : Kind → Bool

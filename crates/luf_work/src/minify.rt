@@ -8,7 +8,7 @@ use crate::Refusal;
 use crate::text::write_text;
 use luf_lex::{Cut, Kind, LexErr, Piece, cut};
 use luf_text::place_of;
-use luf_tree::small;
+use luf_small::small;
 use std::alloc::Global;
 
 /// The most bytes that a source may have.

@@ -2,7 +2,7 @@
 use luf_lex::LexWhat;
 use luf_memory::Memory;
 use luf_text::Place;
-use luf_tree::SmallErr;
+use luf_small::SmallErr;
 
 /// Why a job gives no text.
 #[derive(Clone, Copy, Debug, PartialEq, Eq)]

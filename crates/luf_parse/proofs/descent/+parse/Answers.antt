@@ -3,9 +3,9 @@ use Rattle.luf_lex.specs.Tokens.{toks_of}
 use Rattle.luf_lex.specs.declared.token.Tok.TheVariants.{Word, Sign}
 use Rattle.luf_lex.specs.declared.token.Word.TheVariants as word
 use Rattle.luf_lex.specs.declared.token.Sign.TheVariants as sign
-use Rattle.luf_syntax.specs.Grammar.{AreArms, AreExprs, AreFields, AreStats, AreSteps, AreSuffixes, AreTargets, IsToken, last_field, last_stat, more_arms, more_exprs, more_fields, more_stats, more_steps, more_suffixes, more_targets, name_head, no_else, no_fields, no_for_step, no_stats, one_arm, one_expr, one_step, one_suffix, one_target, operand_expr, paren_head}
-use Rattle.luf_syntax.specs.Level.{expr_levels, field_levels, suffix_levels, step_levels, stat_levels, arm_levels}
-use Rattle.luf_syntax.proofs.LevelEquations.{step_of_levels}
+use Rattle.luf_tree.specs.Grammar.{AreArms, AreExprs, AreFields, AreStats, AreSteps, AreSuffixes, AreTargets, IsToken, last_field, last_stat, more_arms, more_exprs, more_fields, more_stats, more_steps, more_suffixes, more_targets, name_head, no_else, no_fields, no_for_step, no_stats, one_arm, one_expr, one_step, one_suffix, one_target, operand_expr, paren_head}
+use Rattle.luf_tree.specs.Level.{expr_levels, field_levels, suffix_levels, step_levels, stat_levels, arm_levels}
+use Rattle.luf_tree.proofs.LevelEquations.{step_of_levels}
 use Rattle.luf_parse.proofs.Joining.{joins_more, joins_last, joins_end, level_more}
 use Rattle.luf_parse.proofs.ExprParts.{made_block, made_body, made_args, string_arg_found, block_found, call_found, chain_found, dot_found, func_body_found, function_found, index_found, item_found, keyed_found, list_args_found, method_found, name_found, named_found, no_args_found, operand_found, operator_at, paren_found, power_found, prefix_found, return_nothing_found, return_values_found, simple_found, suffixed_found, table_arg_found, table_expr_found, table_found, unary_found, weaken, weaken_found}
 use Rattle.luf_parse.proofs.StatParts.{arm_found, assign_found, break_found, call_shaped, do_found, else_found, empty_found, for_found, for_in_found, for_step_found, function_stat_found, if_found, local_found, local_function_found, local_values_found, repeat_found, while_found}

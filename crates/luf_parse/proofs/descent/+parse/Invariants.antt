@@ -1,8 +1,8 @@
 use Rattle.std.proofs.Common.{Bool, ◌≡◌, ◌+◌, ◌-◌, ◌*◌, ◌≤◌, length, map}
 use Rattle.luf_lex.specs.Tokens.{toks_of}
-use Rattle.luf_syntax.specs.declared.tree.Expr.{out-Expr}
-use Rattle.luf_syntax.specs.Level.{deepest, expr_levels, field_levels, step_levels, suffix_levels, stat_levels, arm_levels}
-use Rattle.luf_syntax.specs.Grammar.{IsExpr, AreSteps, AreFields, AreExprs, AreSuffixes, AreStats, AreArms, AreTargets, IsVariable}
+use Rattle.luf_tree.specs.declared.tree.Expr.{out-Expr}
+use Rattle.luf_tree.specs.Level.{deepest, expr_levels, field_levels, step_levels, suffix_levels, stat_levels, arm_levels}
+use Rattle.luf_tree.specs.Grammar.{IsExpr, AreSteps, AreFields, AreExprs, AreSuffixes, AreStats, AreArms, AreTargets, IsVariable}
 use Rattle.luf_parse.specs.Reads.{Found, level_at}
 use Rattle.luf_parse.proofs.Joining.{Joins}
 use Rattle.luf_parse.proofs.descent.+parse.Given as goal

@@ -1,5 +1,5 @@
 use Rattle.std.proofs.Common.{arith}
-use Rattle.luf_syntax.specs.Grammar.{no_semicolon, a_semicolon}
+use Rattle.luf_tree.specs.Grammar.{no_semicolon, a_semicolon}
 use Rattle.luf_parse.proofs.descent.semicolon.Goals as goal
 
 pub returns-in-Some : goal.returns-in-Some

@@ -1,5 +1,5 @@
 use Rattle.std.proofs.Common.{arith}
-use Rattle.luf_syntax.specs.Grammar.{no_attribute, an_attribute}
+use Rattle.luf_tree.specs.Grammar.{no_attribute, an_attribute}
 use Rattle.luf_parse.proofs.names.attribute.Goals as goal
 
 pub returns-in_ok-to-in-Some-clause-ok : goal.returns-in_ok-to-in-Some-clause-ok

@@ -1,6 +1,6 @@
 use Rattle.std.proofs.Common.{arith}
 use Rattle.luf_lex.specs.Tokens.{toks_of}
-use Rattle.luf_syntax.specs.Grammar.{AreDeclared, one_declared, more_declared}
+use Rattle.luf_tree.specs.Grammar.{AreDeclared, one_declared, more_declared}
 use Rattle.luf_parse.proofs.Joining.{joins_none, joins_more, joins_last}
 use Rattle.luf_parse.proofs.names.declared.Goals as goal
 

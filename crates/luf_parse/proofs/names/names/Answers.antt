@@ -1,6 +1,6 @@
 use Rattle.std.proofs.Common.{arith}
 use Rattle.luf_lex.specs.Tokens.{toks_of}
-use Rattle.luf_syntax.specs.Grammar.{AreNames, one_name, more_names}
+use Rattle.luf_tree.specs.Grammar.{AreNames, one_name, more_names}
 use Rattle.luf_parse.proofs.Joining.{joins_none, joins_more, joins_last}
 use Rattle.luf_parse.proofs.names.names.Goals as goal
 

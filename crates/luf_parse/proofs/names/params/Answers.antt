@@ -1,6 +1,6 @@
 use Rattle.std.proofs.Common.{true, false, arith}
 use Rattle.luf_lex.specs.Tokens.{toks_of}
-use Rattle.luf_syntax.specs.Grammar.{AreNames, one_name, more_names, AreParams, no_params, dots_alone, names_alone, names_and_dots}
+use Rattle.luf_tree.specs.Grammar.{AreNames, one_name, more_names, AreParams, no_params, dots_alone, names_alone, names_and_dots}
 use Rattle.luf_parse.proofs.Joining.{joins_none, joins_more, joins_last, nothing}
 use Rattle.luf_parse.proofs.names.params.Goals as goal
 

@@ -1,6 +1,6 @@
 use Rattle.std.proofs.Common.{arith}
 use Rattle.luf_lex.specs.Tokens.{toks_of}
-use Rattle.luf_syntax.specs.Grammar.{IsPath, path_end, path_more}
+use Rattle.luf_tree.specs.Grammar.{IsPath, path_end, path_more}
 use Rattle.luf_parse.proofs.Joining.{joins_none, joins_more, joins_last}
 use Rattle.luf_parse.proofs.names.path.Goals as goal
 

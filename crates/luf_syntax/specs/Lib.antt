@@ -1,3 +1,0 @@
-pub mod Operator
-pub mod Grammar
-pub mod Level
