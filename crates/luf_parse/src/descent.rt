@@ -14,6 +14,8 @@ ghost use Rattle.luf_tree.specs.Level.{deepest, expr_levels, field_levels, suffi
 ghost use Rattle.luf_parse.specs.Reads as reads;
 ghost use Rattle.luf_parse.specs.Reads.{IsRefusal, Found};
 ghost use Rattle.luf_parse.specs.Shapes.{IsShaped, IsLeaf, suffixed_shape, lone_args};
+ghost use Rattle.luf_parse.specs.Exact.{Alone, Refutes};
+ghost use Rattle.luf_parse.specs.Parts.{ReadArgs, ReadArm, ReadArms, ReadAssign, ReadBlock, ReadChain, ReadCount, ReadDo, ReadElse, ReadEnded, ReadExpr, ReadExprStat, ReadExprs, ReadField, ReadFields, ReadFor, ReadForStep, ReadFuncBody, ReadFunction, ReadFunctionStat, ReadGoto, ReadHead, ReadIf, ReadKeyed, ReadLabel, ReadListArgs, ReadLocal, ReadLoneArg, ReadMoreTargets, ReadOperand, ReadParen, ReadPower, ReadPrefix, ReadRepeat, ReadReturn, ReadSimple, ReadStat, ReadSuffix, ReadSuffixes, ReadTable, ReadTableExpr, ReadVariable, ReadWhile};
 
 use crate::ParseErr;
 use crate::names::{declared, method, names, params, path};
@@ -47,6 +49,8 @@ fn expr(alloc: Global, cut: &Cut, left: u32, at: u32, least: u8) -> Result<Expr,
     ensures ok { IfOk result (λ e. Found (toks_of cut.now) (at + 1) (out-Expr e).to left (expr_levels e) (IsExpr (toks_of cut.now) least at (out-Expr e).to e)) }
     ensures ends { IfOk result (λ e. reads.level_at (toks_of cut.now) (out-Expr e).to < least) }
     ensures err { IfErr result (IsRefusal (toks_of cut.now)) }
+    ensures only { IfOk result (Alone (ReadExpr (toks_of cut.now) least left at)) }
+    ensures none { IfErr result (Refutes (ReadExpr (toks_of cut.now) least left at)) }
 {
     let mut whole = operand(alloc, cut, left, at)?;
     'levels: loop {
@@ -76,6 +80,8 @@ fn chain(
     ensures ok { IfOk result (λ e. Found (toks_of cut.now) (at + 1) (out-Expr e).to left (expr_levels e) (IsExpr (toks_of cut.now) level at (out-Expr e).to e)) }
     ensures ends { IfOk result (λ e. reads.level_at (toks_of cut.now) (out-Expr e).to < level) }
     ensures err { IfErr result (IsRefusal (toks_of cut.now)) }
+    ensures only { IfOk result (Alone (ReadChain (toks_of cut.now) level left at first)) }
+    ensures none { IfErr result (Refutes (ReadChain (toks_of cut.now) level left at first)) }
 {
     let mut rest = Items::new(alloc);
     let mut sign = first.to;
@@ -106,6 +112,8 @@ fn operand(alloc: Global, cut: &Cut, left: u32, at: u32) -> Result<Expr, ParseEr
     requires { left ≤ 200 }
     ensures ok { IfOk result (λ e. Found (toks_of cut.now) (at + 1) (out-Expr e).to left (expr_levels e) (IsOperand (toks_of cut.now) at (out-Expr e).to e)) }
     ensures err { IfErr result (IsRefusal (toks_of cut.now)) }
+    ensures only { IfOk result (Alone (ReadOperand (toks_of cut.now) left at)) }
+    ensures none { IfErr result (Refutes (ReadOperand (toks_of cut.now) left at)) }
 {
     let Some((tok, next)) = take(cut, at) else {
         return Err(refusal(cut, at));
@@ -128,6 +136,8 @@ fn power(alloc: Global, cut: &Cut, left: u32, at: u32) -> Result<Expr, ParseErr>
     requires { left ≤ 200 }
     ensures ok { IfOk result (λ e. Found (toks_of cut.now) (at + 1) (out-Expr e).to left (expr_levels e) (IsOperand (toks_of cut.now) at (out-Expr e).to e)) }
     ensures err { IfErr result (IsRefusal (toks_of cut.now)) }
+    ensures only { IfOk result (Alone (ReadPower (toks_of cut.now) left at)) }
+    ensures none { IfErr result (Refutes (ReadPower (toks_of cut.now) left at)) }
 {
     let base = simple(alloc, cut, left, at)?;
     let sign = base.to;
@@ -153,6 +163,8 @@ fn simple(alloc: Global, cut: &Cut, left: u32, at: u32) -> Result<Expr, ParseErr
     requires { left ≤ 200 }
     ensures ok { IfOk result (λ e. Found (toks_of cut.now) (at + 1) (out-Expr e).to left (expr_levels e) (IsSimple (toks_of cut.now) at (out-Expr e).to e)) }
     ensures err { IfErr result (IsRefusal (toks_of cut.now)) }
+    ensures only { IfOk result (Alone (ReadSimple (toks_of cut.now) left at)) }
+    ensures none { IfErr result (Refutes (ReadSimple (toks_of cut.now) left at)) }
 {
     let Some((tok, to)) = take(cut, at) else {
         return Err(refusal(cut, at));
@@ -192,6 +204,8 @@ fn function(alloc: Global, cut: &Cut, left: u32, at: u32, next: u32) -> Result<E
     requires word { IsToken (toks_of cut.now) at (Tok.Word word.Function) next }
     ensures ok { IfOk result (λ e. Found (toks_of cut.now) (at + 1) (out-Expr e).to left (expr_levels e) (IsSimple (toks_of cut.now) at (out-Expr e).to e)) }
     ensures err { IfErr result (IsRefusal (toks_of cut.now)) }
+    ensures only { IfOk result (Alone (ReadFunction (toks_of cut.now) left at next)) }
+    ensures none { IfErr result (Refutes (ReadFunction (toks_of cut.now) left at next)) }
 {
     let inner = enter(cut, left, at)?;
     let body = func_body(alloc, cut, inner, next)?;
@@ -208,6 +222,8 @@ fn table_expr(alloc: Global, cut: &Cut, left: u32, at: u32) -> Result<Expr, Pars
     requires { left ≤ 200 }
     ensures ok { IfOk result (λ e. Found (toks_of cut.now) (at + 1) (out-Expr e).to left (expr_levels e) (IsSimple (toks_of cut.now) at (out-Expr e).to e)) }
     ensures err { IfErr result (IsRefusal (toks_of cut.now)) }
+    ensures only { IfOk result (Alone (ReadTableExpr (toks_of cut.now) left at)) }
+    ensures none { IfErr result (Refutes (ReadTableExpr (toks_of cut.now) left at)) }
 {
     let (fields, to) = table(alloc, cut, left, at)?;
     Ok(Expr {
@@ -223,6 +239,8 @@ fn table(alloc: Global, cut: &Cut, left: u32, at: u32) -> Result<(Items<Field>, 
     requires { left ≤ 200 }
     ensures ok { IfOk result (λ r. Found (toks_of cut.now) (at + 1) r.1 left (deepest (map field_levels r.0) + 1) (IsTable (toks_of cut.now) at r.1 r.0)) }
     ensures err { IfErr result (IsRefusal (toks_of cut.now)) }
+    ensures only { IfOk result (Alone (ReadTable (toks_of cut.now) left at)) }
+    ensures none { IfErr result (Refutes (ReadTable (toks_of cut.now) left at)) }
 {
     let first = expect(cut, at, Tok::Sign(Sign::LeftBrace))?;
     let inner = enter(cut, left, at)?;
@@ -238,6 +256,8 @@ fn fields(alloc: Global, cut: &Cut, left: u32, mut at: u32) -> Result<(Items<Fie
     requires within { at ≤ length (toks_of cut.now) }
     ensures ok { IfOk result (λ r. Found (toks_of cut.now) at r.1 left (deepest (map field_levels r.0)) (AreFields (toks_of cut.now) at r.1 r.0)) }
     ensures err { IfErr result (IsRefusal (toks_of cut.now)) }
+    ensures only { IfOk result (Alone (ReadFields (toks_of cut.now) left at)) }
+    ensures none { IfErr result (Refutes (ReadFields (toks_of cut.now) left at)) }
 {
     let mut found = Items::new(alloc);
     'fields: loop {
@@ -272,6 +292,8 @@ fn field(alloc: Global, cut: &Cut, left: u32, at: u32) -> Result<(Field, u32), P
     requires { left ≤ 200 }
     ensures ok { IfOk result (λ r. Found (toks_of cut.now) (at + 1) r.1 left (field_levels r.0) (IsField (toks_of cut.now) at r.1 r.0)) }
     ensures err { IfErr result (IsRefusal (toks_of cut.now)) }
+    ensures only { IfOk result (Alone (ReadField (toks_of cut.now) left at)) }
+    ensures none { IfErr result (Refutes (ReadField (toks_of cut.now) left at)) }
 {
     if let Some(inside) = eat(cut, at, Tok::Sign(Sign::LeftBracket)) {
         return keyed(alloc, cut, left, at, inside);
@@ -301,6 +323,8 @@ fn keyed(
     requires sign { IsToken (toks_of cut.now) at (Tok.Sign sign.LeftBracket) inside }
     ensures ok { IfOk result (λ r. Found (toks_of cut.now) (at + 1) r.1 left (field_levels r.0) (IsField (toks_of cut.now) at r.1 r.0)) }
     ensures err { IfErr result (IsRefusal (toks_of cut.now)) }
+    ensures only { IfOk result (Alone (ReadKeyed (toks_of cut.now) left inside)) }
+    ensures none { IfErr result (Refutes (ReadKeyed (toks_of cut.now) left inside)) }
 {
     let inner = enter(cut, left, at)?;
     let key = expr(alloc, cut, inner, inside, 1)?;
@@ -317,6 +341,8 @@ fn exprs(alloc: Global, cut: &Cut, left: u32, mut at: u32) -> Result<(Items<Expr
     requires { left ≤ 200 }
     ensures ok { IfOk result (λ r. Found (toks_of cut.now) (at + 1) r.1 left (deepest (map expr_levels r.0)) (AreExprs (toks_of cut.now) at r.1 r.0)) }
     ensures err { IfErr result (IsRefusal (toks_of cut.now)) }
+    ensures only { IfOk result (Alone (ReadExprs (toks_of cut.now) left at)) }
+    ensures none { IfErr result (Refutes (ReadExprs (toks_of cut.now) left at)) }
 {
     let mut found = Items::new(alloc);
     loop {
@@ -337,6 +363,8 @@ fn prefix(alloc: Global, cut: &Cut, left: u32, at: u32) -> Result<PrefixExpr, Pa
     ensures ok { IfOk result (λ p. Found (toks_of cut.now) (at + 1) (out-Expr p.expr).to left (expr_levels p.expr) (IsShaped (toks_of cut.now) at (out-Expr p.expr).to p.shape p.expr)) }
     ensures closed { IfOk result (λ p. IsClosed (toks_of cut.now) (out-Expr p.expr).to) }
     ensures err { IfErr result (IsRefusal (toks_of cut.now)) }
+    ensures only { IfOk result (Alone (ReadPrefix (toks_of cut.now) left at)) }
+    ensures none { IfErr result (Refutes (ReadPrefix (toks_of cut.now) left at)) }
 {
     let head = head(alloc, cut, left, at)?;
     if !begins_suffix(cut, head.expr.to) {
@@ -370,6 +398,8 @@ fn head(alloc: Global, cut: &Cut, left: u32, at: u32) -> Result<PrefixExpr, Pars
     ensures ok { IfOk result (λ p. Found (toks_of cut.now) (at + 1) (out-Expr p.expr).to left (expr_levels p.expr) (IsShaped (toks_of cut.now) at (out-Expr p.expr).to p.shape p.expr)) }
     ensures head { IfOk result (λ p. IsHead (toks_of cut.now) at (out-Expr p.expr).to p.expr) }
     ensures err { IfErr result (IsRefusal (toks_of cut.now)) }
+    ensures only { IfOk result (Alone (ReadHead (toks_of cut.now) left at)) }
+    ensures none { IfErr result (Refutes (ReadHead (toks_of cut.now) left at)) }
 {
     if let Some(to) = eat(cut, at, Tok::Name) {
         let expr = Expr {
@@ -395,6 +425,8 @@ fn paren(alloc: Global, cut: &Cut, left: u32, at: u32) -> Result<Expr, ParseErr>
     requires { left ≤ 200 }
     ensures ok { IfOk result (λ e. Found (toks_of cut.now) (at + 1) (out-Expr e).to left (expr_levels e) (IsParen (toks_of cut.now) at (out-Expr e).to e)) }
     ensures err { IfErr result (IsRefusal (toks_of cut.now)) }
+    ensures only { IfOk result (Alone (ReadParen (toks_of cut.now) left at)) }
+    ensures none { IfErr result (Refutes (ReadParen (toks_of cut.now) left at)) }
 {
     let next = expect(cut, at, Tok::Sign(Sign::LeftParen))?;
     let inner = enter(cut, left, at)?;
@@ -419,6 +451,8 @@ fn suffixes(
     ensures ok { IfOk result (λ r. Found (toks_of cut.now) (at + 1) r.2 left (deepest (map suffix_levels r.0)) (AreSuffixes (toks_of cut.now) r.1 at r.2 r.0)) }
     ensures closed { IfOk result (λ r. IsClosed (toks_of cut.now) r.2) }
     ensures err { IfErr result (IsRefusal (toks_of cut.now)) }
+    ensures only { IfOk result (Alone (ReadSuffixes (toks_of cut.now) left at)) }
+    ensures none { IfErr result (Refutes (ReadSuffixes (toks_of cut.now) left at)) }
 {
     let mut found = Items::new(alloc);
     loop {
@@ -437,6 +471,8 @@ fn suffix(alloc: Global, cut: &Cut, left: u32, at: u32) -> Result<(Suffix, bool,
     requires { left ≤ 200 }
     ensures ok { IfOk result (λ r. Found (toks_of cut.now) (at + 1) r.2 left (suffix_levels r.0) (IsSuffix (toks_of cut.now) r.1 at r.2 r.0)) }
     ensures err { IfErr result (IsRefusal (toks_of cut.now)) }
+    ensures only { IfOk result (Alone (ReadSuffix (toks_of cut.now) left at)) }
+    ensures none { IfErr result (Refutes (ReadSuffix (toks_of cut.now) left at)) }
 {
     if let Some(name) = eat(cut, at, Tok::Sign(Sign::Dot)) {
         let to = expect(cut, name, Tok::Name)?;
@@ -465,6 +501,8 @@ fn args(alloc: Global, cut: &Cut, left: u32, at: u32) -> Result<Args, ParseErr>
     requires { left ≤ 200 }
     ensures ok { IfOk result (λ a. Found (toks_of cut.now) (at + 1) (out-Args a).to left (args_levels a) (IsArgs (toks_of cut.now) at (out-Args a).to a)) }
     ensures err { IfErr result (IsRefusal (toks_of cut.now)) }
+    ensures only { IfOk result (Alone (ReadArgs (toks_of cut.now) left at)) }
+    ensures none { IfErr result (Refutes (ReadArgs (toks_of cut.now) left at)) }
 {
     if let Some(inside) = eat(cut, at, Tok::Sign(Sign::LeftParen)) {
         return list_args(alloc, cut, left, at, inside);
@@ -488,6 +526,8 @@ fn list_args(alloc: Global, cut: &Cut, left: u32, at: u32, inside: u32) -> Resul
     requires sign { IsToken (toks_of cut.now) at (Tok.Sign sign.LeftParen) inside }
     ensures ok { IfOk result (λ a. Found (toks_of cut.now) (at + 1) (out-Args a).to left (args_levels a) (IsArgs (toks_of cut.now) at (out-Args a).to a)) }
     ensures err { IfErr result (IsRefusal (toks_of cut.now)) }
+    ensures only { IfOk result (Alone (ReadListArgs (toks_of cut.now) left at inside)) }
+    ensures none { IfErr result (Refutes (ReadListArgs (toks_of cut.now) left at inside)) }
 {
     let inner = enter(cut, left, at)?;
     if let Some(to) = eat(cut, inside, Tok::Sign(Sign::RightParen)) {
@@ -514,6 +554,8 @@ fn lone_arg(alloc: Global, cut: &Cut, left: u32, at: u32) -> Result<Expr, ParseE
     requires { left ≤ 200 }
     ensures ok { IfOk result (λ e. Found (toks_of cut.now) (at + 1) (out-Expr e).to left (expr_levels e + 1) (IsArgs (toks_of cut.now) at (out-Expr e).to (lone_args at e))) }
     ensures err { IfErr result (IsRefusal (toks_of cut.now)) }
+    ensures only { IfOk result (Alone (ReadLoneArg (toks_of cut.now) left at)) }
+    ensures none { IfErr result (Refutes (ReadLoneArg (toks_of cut.now) left at)) }
 {
     if let Some(to) = string(cut, at) {
         enter(cut, left, at)?;
@@ -552,6 +594,8 @@ fn func_body(alloc: Global, cut: &Cut, left: u32, at: u32) -> Result<FuncBody, P
     requires { left ≤ 200 }
     ensures ok { IfOk result (λ f. Found (toks_of cut.now) (at + 1) (out-FuncBody f).to left (body_levels f) (IsFuncBody (toks_of cut.now) at (out-FuncBody f).to f)) }
     ensures err { IfErr result (IsRefusal (toks_of cut.now)) }
+    ensures only { IfOk result (Alone (ReadFuncBody (toks_of cut.now) left at)) }
+    ensures none { IfErr result (Refutes (ReadFuncBody (toks_of cut.now) left at)) }
 {
     let first = expect(cut, at, Tok::Sign(Sign::LeftParen))?;
     let (params, vararg, close) = params(alloc, cut, first)?;
@@ -574,6 +618,8 @@ pub fn block(alloc: Global, cut: &Cut, left: u32, at: u32) -> Result<Block, Pars
     requires within { at ≤ length (toks_of cut.now) }
     ensures ok { IfOk result (λ b. Found (toks_of cut.now) at (out-Block b).to left (block_levels b) (IsBlock (toks_of cut.now) at (out-Block b).to b)) }
     ensures err { IfErr result (IsRefusal (toks_of cut.now)) }
+    ensures only { IfOk result (Alone (ReadBlock (toks_of cut.now) left at)) }
+    ensures none { IfErr result (Refutes (ReadBlock (toks_of cut.now) left at)) }
 {
     let mut stats = Items::new(alloc);
     let mut to = at;
@@ -613,6 +659,8 @@ fn last(alloc: Global, cut: &Cut, left: u32, at: u32) -> Result<Stat, ParseErr>
     requires { left ≤ 200 }
     ensures ok { IfOk result (λ s. Found (toks_of cut.now) (at + 1) (out-Stat s).to left (stat_levels s) (IsReturn (toks_of cut.now) at (out-Stat s).to s)) }
     ensures err { IfErr result (IsRefusal (toks_of cut.now)) }
+    ensures only { IfOk result (Alone (ReadReturn (toks_of cut.now) left at)) }
+    ensures none { IfErr result (Refutes (ReadReturn (toks_of cut.now) left at)) }
 {
     let next = expect(cut, at, Tok::Word(Word::Return))?;
     if ends_block(cut, next) || cut.is_at(next, Tok::Sign(Sign::Semicolon)) {
@@ -647,6 +695,8 @@ fn stat(alloc: Global, cut: &Cut, left: u32, at: u32) -> Result<Stat, ParseErr>
     requires { left ≤ 200 }
     ensures ok { IfOk result (λ s. Found (toks_of cut.now) (at + 1) (out-Stat s).to left (stat_levels s) (IsStat (toks_of cut.now) at (out-Stat s).to s)) }
     ensures err { IfErr result (IsRefusal (toks_of cut.now)) }
+    ensures only { IfOk result (Alone (ReadStat (toks_of cut.now) left at)) }
+    ensures none { IfErr result (Refutes (ReadStat (toks_of cut.now) left at)) }
 {
     match take(cut, at) {
         Some((Tok::Word(Word::If), next)) => if_stat(alloc, cut, left, at, next),
@@ -677,6 +727,8 @@ fn label_stat(cut: &Cut, at: u32, name: u32) -> Result<Stat, ParseErr>
     requires { IsToken (toks_of cut.now) at (Tok.Sign sign.DoubleColon) name }
     ensures ok { IfOk result (λ s. Found (toks_of cut.now) (at + 1) (out-Stat s).to 0 (stat_levels s) (IsStat (toks_of cut.now) at (out-Stat s).to s)) }
     ensures err { IfErr result (IsRefusal (toks_of cut.now)) }
+    ensures only { IfOk result (Alone (ReadLabel (toks_of cut.now) at name)) }
+    ensures none { IfErr result (Refutes (ReadLabel (toks_of cut.now) at name)) }
 {
     let close = expect(cut, name, Tok::Name)?;
     let to = expect(cut, close, Tok::Sign(Sign::DoubleColon))?;
@@ -692,6 +744,8 @@ fn goto_stat(cut: &Cut, at: u32, name: u32) -> Result<Stat, ParseErr>
     requires { IsToken (toks_of cut.now) at (Tok.Word word.Goto) name }
     ensures ok { IfOk result (λ s. Found (toks_of cut.now) (at + 1) (out-Stat s).to 0 (stat_levels s) (IsStat (toks_of cut.now) at (out-Stat s).to s)) }
     ensures err { IfErr result (IsRefusal (toks_of cut.now)) }
+    ensures only { IfOk result (Alone (ReadGoto (toks_of cut.now) at name)) }
+    ensures none { IfErr result (Refutes (ReadGoto (toks_of cut.now) at name)) }
 {
     let to = expect(cut, name, Tok::Name)?;
     Ok(Stat {
@@ -714,6 +768,8 @@ fn ended_block(
     requires within { from ≤ length (toks_of cut.now) }
     ensures ok { IfOk result (λ r. Found (toks_of cut.now) (from + 1) r.1 left (block_levels r.0 + 1) (IsBlock (toks_of cut.now) from (out-Block r.0).to r.0 × IsToken (toks_of cut.now) (out-Block r.0).to (Tok.Word word.End) r.1)) }
     ensures err { IfErr result (IsRefusal (toks_of cut.now)) }
+    ensures only { IfOk result (Alone (ReadEnded (toks_of cut.now) left from)) }
+    ensures none { IfErr result (Refutes (ReadEnded (toks_of cut.now) left from)) }
 {
     let inner = enter(cut, left, opener)?;
     let body = block(alloc, cut, inner, from)?;
@@ -729,6 +785,8 @@ fn do_stat(alloc: Global, cut: &Cut, left: u32, at: u32, next: u32) -> Result<St
     requires word { IsToken (toks_of cut.now) at (Tok.Word word.Do) next }
     ensures ok { IfOk result (λ s. Found (toks_of cut.now) (at + 1) (out-Stat s).to left (stat_levels s) (IsStat (toks_of cut.now) at (out-Stat s).to s)) }
     ensures err { IfErr result (IsRefusal (toks_of cut.now)) }
+    ensures only { IfOk result (Alone (ReadDo (toks_of cut.now) left at next)) }
+    ensures none { IfErr result (Refutes (ReadDo (toks_of cut.now) left at next)) }
 {
     let (body, to) = ended_block(alloc, cut, left, at, next)?;
     Ok(Stat {
@@ -745,6 +803,8 @@ fn while_stat(alloc: Global, cut: &Cut, left: u32, at: u32, next: u32) -> Result
     requires word { IsToken (toks_of cut.now) at (Tok.Word word.While) next }
     ensures ok { IfOk result (λ s. Found (toks_of cut.now) (at + 1) (out-Stat s).to left (stat_levels s) (IsStat (toks_of cut.now) at (out-Stat s).to s)) }
     ensures err { IfErr result (IsRefusal (toks_of cut.now)) }
+    ensures only { IfOk result (Alone (ReadWhile (toks_of cut.now) left at next)) }
+    ensures none { IfErr result (Refutes (ReadWhile (toks_of cut.now) left at next)) }
 {
     let test = expr(alloc, cut, left, next, 1)?;
     let opener = test.to;
@@ -765,6 +825,8 @@ fn repeat_stat(alloc: Global, cut: &Cut, left: u32, at: u32, next: u32) -> Resul
     requires word { IsToken (toks_of cut.now) at (Tok.Word word.Repeat) next }
     ensures ok { IfOk result (λ s. Found (toks_of cut.now) (at + 1) (out-Stat s).to left (stat_levels s) (IsStat (toks_of cut.now) at (out-Stat s).to s)) }
     ensures err { IfErr result (IsRefusal (toks_of cut.now)) }
+    ensures only { IfOk result (Alone (ReadRepeat (toks_of cut.now) left at next)) }
+    ensures none { IfErr result (Refutes (ReadRepeat (toks_of cut.now) left at next)) }
 {
     let inner = enter(cut, left, at)?;
     let body = block(alloc, cut, inner, next)?;
@@ -784,6 +846,8 @@ fn if_stat(alloc: Global, cut: &Cut, left: u32, at: u32, next: u32) -> Result<St
     requires word { IsToken (toks_of cut.now) at (Tok.Word word.If) next }
     ensures ok { IfOk result (λ s. Found (toks_of cut.now) (at + 1) (out-Stat s).to left (stat_levels s) (IsStat (toks_of cut.now) at (out-Stat s).to s)) }
     ensures err { IfErr result (IsRefusal (toks_of cut.now)) }
+    ensures only { IfOk result (Alone (ReadIf (toks_of cut.now) left at next)) }
+    ensures none { IfErr result (Refutes (ReadIf (toks_of cut.now) left at next)) }
 {
     let (arms, after) = arms(alloc, cut, left, next)?;
     let (last, close) = else_block(alloc, cut, left, after)?;
@@ -801,6 +865,8 @@ fn arms(alloc: Global, cut: &Cut, left: u32, mut at: u32) -> Result<(Items<Arm>,
     requires { left ≤ 200 }
     ensures ok { IfOk result (λ r. Found (toks_of cut.now) (at + 1) r.1 left (deepest (map arm_levels r.0)) (AreArms (toks_of cut.now) at r.1 r.0)) }
     ensures err { IfErr result (IsRefusal (toks_of cut.now)) }
+    ensures only { IfOk result (Alone (ReadArms (toks_of cut.now) left at)) }
+    ensures none { IfErr result (Refutes (ReadArms (toks_of cut.now) left at)) }
 {
     let mut found = Items::new(alloc);
     loop {
@@ -819,6 +885,8 @@ fn arm(alloc: Global, cut: &Cut, left: u32, at: u32) -> Result<(Arm, u32), Parse
     requires { left ≤ 200 }
     ensures ok { IfOk result (λ r. Found (toks_of cut.now) (at + 1) r.1 left (arm_levels r.0) (IsArm (toks_of cut.now) at r.1 r.0)) }
     ensures err { IfErr result (IsRefusal (toks_of cut.now)) }
+    ensures only { IfOk result (Alone (ReadArm (toks_of cut.now) left at)) }
+    ensures none { IfErr result (Refutes (ReadArm (toks_of cut.now) left at)) }
 {
     let test = expr(alloc, cut, left, at, 1)?;
     let opener = test.to;
@@ -841,6 +909,8 @@ fn else_block(
     requires within { at ≤ length (toks_of cut.now) }
     ensures ok { IfOk result (λ r. Found (toks_of cut.now) at r.1 left (block_if_there (option_map block_levels r.0)) (IsElse (toks_of cut.now) at r.1 r.0)) }
     ensures err { IfErr result (IsRefusal (toks_of cut.now)) }
+    ensures only { IfOk result (Alone (ReadElse (toks_of cut.now) left at)) }
+    ensures none { IfErr result (Refutes (ReadElse (toks_of cut.now) left at)) }
 {
     let Some(inside) = eat(cut, at, Tok::Word(Word::Else)) else {
         return Ok((None, at));
@@ -858,6 +928,8 @@ fn for_stat(alloc: Global, cut: &Cut, left: u32, at: u32, next: u32) -> Result<S
     requires word { IsToken (toks_of cut.now) at (Tok.Word word.For) next }
     ensures ok { IfOk result (λ s. Found (toks_of cut.now) (at + 1) (out-Stat s).to left (stat_levels s) (IsStat (toks_of cut.now) at (out-Stat s).to s)) }
     ensures err { IfErr result (IsRefusal (toks_of cut.now)) }
+    ensures only { IfOk result (Alone (ReadFor (toks_of cut.now) left at next)) }
+    ensures none { IfErr result (Refutes (ReadFor (toks_of cut.now) left at next)) }
 {
     if let Some(after) = eat(cut, next, Tok::Name) {
         if let Some(from) = eat(cut, after, Tok::Sign(Sign::Assign)) {
@@ -897,6 +969,8 @@ fn count_stat(
     requires sign { IsToken (toks_of cut.now) after (Tok.Sign sign.Assign) from }
     ensures ok { IfOk result (λ s. Found (toks_of cut.now) (at + 1) (out-Stat s).to left (stat_levels s) (IsStat (toks_of cut.now) at (out-Stat s).to s)) }
     ensures err { IfErr result (IsRefusal (toks_of cut.now)) }
+    ensures only { IfOk result (Alone (ReadCount (toks_of cut.now) left at name from)) }
+    ensures none { IfErr result (Refutes (ReadCount (toks_of cut.now) left at name from)) }
 {
     let first = expr(alloc, cut, left, from, 1)?;
     let second = expect(cut, first.to, Tok::Sign(Sign::Comma))?;
@@ -924,6 +998,8 @@ fn for_step(alloc: Global, cut: &Cut, left: u32, at: u32) -> Result<(Option<Expr
     requires within { at ≤ length (toks_of cut.now) }
     ensures ok { IfOk result (λ r. Found (toks_of cut.now) at r.1 left (if_there (option_map expr_levels r.0)) (IsForStep (toks_of cut.now) at r.1 r.0)) }
     ensures err { IfErr result (IsRefusal (toks_of cut.now)) }
+    ensures only { IfOk result (Alone (ReadForStep (toks_of cut.now) left at)) }
+    ensures none { IfErr result (Refutes (ReadForStep (toks_of cut.now) left at)) }
 {
     let Some(from) = eat(cut, at, Tok::Sign(Sign::Comma)) else {
         return Ok((None, at));
@@ -940,6 +1016,8 @@ fn function_stat(alloc: Global, cut: &Cut, left: u32, at: u32, next: u32) -> Res
     requires word { IsToken (toks_of cut.now) at (Tok.Word word.Function) next }
     ensures ok { IfOk result (λ s. Found (toks_of cut.now) (at + 1) (out-Stat s).to left (stat_levels s) (IsStat (toks_of cut.now) at (out-Stat s).to s)) }
     ensures err { IfErr result (IsRefusal (toks_of cut.now)) }
+    ensures only { IfOk result (Alone (ReadFunctionStat (toks_of cut.now) left at next)) }
+    ensures none { IfErr result (Refutes (ReadFunctionStat (toks_of cut.now) left at next)) }
 {
     let inner = enter(cut, left, at)?;
     let (path, dot) = path(alloc, cut, next)?;
@@ -959,6 +1037,8 @@ fn local_stat(alloc: Global, cut: &Cut, left: u32, at: u32, next: u32) -> Result
     requires word { IsToken (toks_of cut.now) at (Tok.Word word.Local) next }
     ensures ok { IfOk result (λ s. Found (toks_of cut.now) (at + 1) (out-Stat s).to left (stat_levels s) (IsStat (toks_of cut.now) at (out-Stat s).to s)) }
     ensures err { IfErr result (IsRefusal (toks_of cut.now)) }
+    ensures only { IfOk result (Alone (ReadLocal (toks_of cut.now) left at next)) }
+    ensures none { IfErr result (Refutes (ReadLocal (toks_of cut.now) left at next)) }
 {
     if let Some(name) = eat(cut, next, Tok::Word(Word::Function)) {
         let inner = enter(cut, left, next)?;
@@ -995,6 +1075,8 @@ fn expr_stat(alloc: Global, cut: &Cut, left: u32, at: u32) -> Result<Stat, Parse
     requires { left ≤ 200 }
     ensures ok { IfOk result (λ s. Found (toks_of cut.now) (at + 1) (out-Stat s).to left (stat_levels s) (IsStat (toks_of cut.now) at (out-Stat s).to s)) }
     ensures err { IfErr result (IsRefusal (toks_of cut.now)) }
+    ensures only { IfOk result (Alone (ReadExprStat (toks_of cut.now) left at)) }
+    ensures none { IfErr result (Refutes (ReadExprStat (toks_of cut.now) left at)) }
 {
     let first = prefix(alloc, cut, left, at)?;
     let to = first.expr.to;
@@ -1016,6 +1098,8 @@ fn assign(alloc: Global, cut: &Cut, left: u32, at: u32, first: Expr) -> Result<S
     requires first { Found (toks_of cut.now) (at + 1) (out-Expr first).to left (expr_levels first) (IsVariable (toks_of cut.now) at (out-Expr first).to first) }
     ensures ok { IfOk result (λ s. Found (toks_of cut.now) (at + 1) (out-Stat s).to left (stat_levels s) (IsStat (toks_of cut.now) at (out-Stat s).to s)) }
     ensures err { IfErr result (IsRefusal (toks_of cut.now)) }
+    ensures only { IfOk result (Alone (ReadAssign (toks_of cut.now) left at first)) }
+    ensures none { IfErr result (Refutes (ReadAssign (toks_of cut.now) left at first)) }
 {
     let (targets, end) = targets(alloc, cut, left, at, first)?;
     let from = expect(cut, end, Tok::Sign(Sign::Assign))?;
@@ -1040,6 +1124,8 @@ fn targets(
     requires first { Found (toks_of cut.now) (at + 1) (out-Expr first).to left (expr_levels first) (IsVariable (toks_of cut.now) at (out-Expr first).to first) }
     ensures ok { IfOk result (λ r. Found (toks_of cut.now) (at + 1) r.1 left (deepest (map expr_levels r.0)) (AreTargets (toks_of cut.now) at r.1 r.0)) }
     ensures err { IfErr result (IsRefusal (toks_of cut.now)) }
+    ensures only { IfOk result (Alone (ReadMoreTargets (toks_of cut.now) left at first)) }
+    ensures none { IfErr result (Refutes (ReadMoreTargets (toks_of cut.now) left at first)) }
 {
     let mut found = Items::new(alloc);
     let mut one = first;
@@ -1060,6 +1146,8 @@ fn variable(alloc: Global, cut: &Cut, left: u32, at: u32) -> Result<Expr, ParseE
     requires { left ≤ 200 }
     ensures ok { IfOk result (λ e. Found (toks_of cut.now) (at + 1) (out-Expr e).to left (expr_levels e) (IsVariable (toks_of cut.now) at (out-Expr e).to e)) }
     ensures err { IfErr result (IsRefusal (toks_of cut.now)) }
+    ensures only { IfOk result (Alone (ReadVariable (toks_of cut.now) left at)) }
+    ensures none { IfErr result (Refutes (ReadVariable (toks_of cut.now) left at)) }
 {
     let prefix = prefix(alloc, cut, left, at)?;
     match prefix.shape {

@@ -3,6 +3,7 @@ ghost use Rattle.std.specs.Prelude.{◌≡◌, ◌+◌, ◌<◌, ◌≤◌, ◌�
 ghost use Rattle.luf_lex.specs.Tokens.{toks_of};
 ghost use Rattle.luf_tree.specs.Grammar.{At, IsToken};
 ghost use Rattle.luf_tree.specs.Operator as operator;
+ghost use Rattle.luf_parse.specs.Exact.{Alone, Refutes, Enters};
 ghost use Rattle.luf_parse.specs.Reads as reads;
 ghost use Rattle.luf_parse.specs.Reads.{IsRefusal, level_at};
 
@@ -39,6 +40,8 @@ pub fn expect(cut: &Cut, at: u32, tok: Tok) -> Result<u32, ParseErr>
     ensures token { IfOk result (λ next. IsToken (toks_of cut.now) at tok next) }
     ensures within { IfOk result (λ next. next ≤ length (toks_of cut.now)) }
     ensures err { IfErr result (IsRefusal (toks_of cut.now)) }
+    ensures only { IfOk result (Alone (IsToken (toks_of cut.now) at tok)) }
+    ensures none { IfErr result (Refutes (IsToken (toks_of cut.now) at tok)) }
 {
     match eat(cut, at, tok) {
         Some(next) => Ok(next),
@@ -59,6 +62,8 @@ pub fn refusal(cut: &Cut, at: u32) -> ParseErr
 pub fn enter(cut: &Cut, left: u32, at: u32) -> Result<u32, ParseErr>
     ensures ok { IfOk result (λ inner. left ≡ inner + 1) }
     ensures err { IfErr result (IsRefusal (toks_of cut.now)) }
+    ensures only { IfOk result (Alone (Enters left)) }
+    ensures none { IfErr result (Refutes (Enters left)) }
 {
     if left == 0 {
         return Err(ParseErr::TooDeep {

@@ -1,5 +1,9 @@
 use Rattle.std.proofs.Common.{arith}
+use Rattle.luf_parse.proofs.Exactness.{passes, refutes_form, refutes_first, refutes_next}
+use Rattle.luf_parse.proofs.NameForms.{attribute_form}
 use Rattle.luf_tree.specs.Grammar.{no_attribute, an_attribute}
+use Rattle.luf_parse.proofs.ExprForms.{unary_form}
+use Rattle.luf_parse.proofs.StatForms.{stat_form}
 use Rattle.luf_parse.proofs.names.attribute.Goals as goal
 
 pub returns-in_ok-to-in-Some-clause-ok : goal.returns-in_ok-to-in-Some-clause-ok
@@ -12,3 +16,9 @@ returns-in_ok-to-in-Some-clause-ok c =
 pub returns-in-None-clause-ok : goal.returns-in-None-clause-ok
 returns-in-None-clause-ok c =
     record { derived = no_attribute; forward = omega arith; within = omega arith; level = omega arith }
+
+pub returns-in_err-close-in-Some-clause-none : goal.returns-in_err-close-in-Some-clause-none
+returns-in_err-close-in-Some-clause-none c = passes _ c.from_residual.ensures.1 (refutes_form (attribute_form c.in-Some.ensures.token) (refutes_first c.in_err-close-in-Some.ensures.none))
+
+pub returns-in_err-to-in-Some-clause-none : goal.returns-in_err-to-in-Some-clause-none
+returns-in_err-to-in-Some-clause-none c = passes _ c.from_residual-in_err-to-in-Some.ensures.1 (refutes_form (attribute_form c.in-Some.ensures.token) (refutes_next c.in_ok-close-in-Some.ensures.only (refutes_first c.in_err-to-in-Some.ensures.none)))
