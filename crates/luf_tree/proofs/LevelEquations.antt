@@ -1,5 +1,5 @@
 -- How many levels each part enters, by what it is made of.
-use Rattle.std.proofs.Common.{◌≡◌, ℕ, ◌+◌, ◌∙◌, Option, Some, None, List, Bool, map, max, ap, sym, refl}
+use Rattle.std.proofs.Common.{◌≡◌, ℕ, ◌+◌, ◌∙◌, Option, Some, None, List, Bool, map, max, ap, sym}
 use Rattle.std.specs.Option.{option_map}
 use Rattle.luf_tree.specs.declared.tree.Declared.{Declared}
 use Rattle.luf_tree.specs.declared.tree.Arm.{Arm, roll-Arm}
