@@ -140,9 +140,15 @@ ends_field _ = false
 abbrev pub EndsField : List Tok → ℕ → Type 0
 EndsField toks i = ends_field (slice_get toks i) ≡ true
 
+-- a name and a `=` stand there, and behind them a place
+pub record IsAssigned (toks : List Tok) (i from : ℕ) : Type 0 where
+  pub after : ℕ
+  pub name : IsToken toks i tok.Name after
+  pub sign : IsToken toks after (tok.Sign sign.Assign) from
+
 -- a name and a `=` do not stand there
 abbrev pub NotAssigned : List Tok → ℕ → Type 0
-NotAssigned toks i = (after from : ℕ) → IsToken toks i tok.Name after → IsToken toks after (tok.Sign sign.Assign) from → ⊥
+NotAssigned toks i = (from : ℕ) → IsAssigned toks i from → ⊥
 
 -- no string stands there
 abbrev pub NotString : List Tok → ℕ → Type 0

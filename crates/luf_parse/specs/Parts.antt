@@ -22,7 +22,7 @@ use Rattle.luf_tree.specs.declared.tree.Field.TheVariants as field
 use Rattle.luf_tree.specs.Level.{deepest, expr_levels, field_levels, suffix_levels, step_levels, stat_levels, block_levels, arm_levels, args_levels, body_levels, if_there, block_if_there}
 use Rattle.luf_tree.specs.Grammar.{At, expression, statement, IsToken, IsString, AreNames, AreParams, IsAttribute, AreDeclared, IsPath, IsMethod, IsSemicolon, IsExpr, AreSteps, IsOperand, IsSimple, IsPrefix, IsVariable, IsCall, IsParen, IsHead, AreSuffixes, IsSuffix, IsArgs, AreExprs, IsTable, AreFields, IsField, IsFuncBody, IsBlock, AreStats, IsReturn, IsStat, AreTargets, IsArm, AreArms, IsElse, IsForStep}
 use Rattle.luf_parse.specs.Exact.{Then, Enters}
-use Rattle.luf_parse.specs.Follow.{NotAt, continues_prefix, EndsOperand, EndsExpr, EndsExprs, EndsBlock, EndsStat, EndsArms, EndsField}
+use Rattle.luf_parse.specs.Follow.{NotAt, IsAssigned, NotAssigned, continues_prefix, EndsOperand, EndsExpr, EndsExprs, EndsBlock, EndsStat, EndsArms, EndsField}
 use Rattle.luf_parse.specs.Reads.{begins_suffix}
 use Rattle.luf_parse.specs.Shapes.{IsShaped, lone_args}
 use Rattle.luf_parse.specs.declared.descent.PrefixExpr.{PrefixExpr}
@@ -229,8 +229,8 @@ ReadForIn toks left i next =
 
 -- a `for` statement behind its `for`: with a count where a name and `=` stand there, else with names
 pub record ReadFor (toks : List Tok) (left i next : ℕ) (s : Stat) : Type 0 where
-  pub count : (after from : ℕ) → IsToken toks next Name after → IsToken toks after (Sign sign.Assign) from → ReadCount toks left i next from s
-  pub names : ((after from : ℕ) → IsToken toks next Name after → IsToken toks after (Sign sign.Assign) from → ⊥) → ReadForIn toks left i next s
+  pub count : (from : ℕ) → IsAssigned toks next from → ReadCount toks left i next from s
+  pub names : NotAssigned toks next → ReadForIn toks left i next s
 
 abbrev pub ReadFunctionStat : List Tok → ℕ → ℕ → ℕ → Stat → Type 0
 ReadFunctionStat toks left i next =

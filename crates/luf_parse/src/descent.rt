@@ -1,5 +1,5 @@
 // The recursive descent. `left` is how many levels may still be entered; recursion follows levels alone.
-ghost use Rattle.std.specs.Prelude.{◌≡◌, ◌+◌, ◌<◌, ◌≤◌, [], ◌∷◌, map, ◌⊎◌, length, IfOk, IfErr, IfSome};
+ghost use Rattle.std.specs.Prelude.{◌≡◌, ◌+◌, ◌<◌, ◌≤◌, [], ◌∷◌, map, ℕ, length, slice_get, IfOk, IfErr, IfSome, IfNone};
 ghost use Rattle.std.specs.Option.{option_map};
 ghost use Rattle.luf_lex.specs.Tokens.{toks_of};
 ghost use Rattle.luf_lex.specs.declared.token.Word.TheVariants as word;
@@ -13,9 +13,10 @@ ghost use Rattle.luf_tree.specs.Grammar.{IsToken, IsString, IsClosed, IsExpr, Is
 ghost use Rattle.luf_tree.specs.Level.{deepest, expr_levels, field_levels, suffix_levels, stat_levels, block_levels, body_levels, arm_levels, args_levels, if_there, block_if_there};
 ghost use Rattle.luf_parse.specs.Reads as reads;
 ghost use Rattle.luf_parse.specs.Reads.{IsRefusal, Found};
-ghost use Rattle.luf_parse.specs.Shapes.{IsShaped, IsLeaf, suffixed_shape, lone_args};
+ghost use Rattle.luf_parse.specs.Shapes.{IsShaped, IsLeaf, leaf_kind, suffixed_shape, lone_args};
 ghost use Rattle.luf_parse.specs.Exact.{Alone, Refutes};
-ghost use Rattle.luf_parse.specs.Parts.{ReadArgs, ReadArm, ReadArms, ReadAssign, ReadBlock, ReadChain, ReadCount, ReadDo, ReadElse, ReadEnded, ReadExpr, ReadExprStat, ReadExprs, ReadField, ReadFields, ReadFor, ReadForStep, ReadFuncBody, ReadFunction, ReadFunctionStat, ReadGoto, ReadHead, ReadIf, ReadKeyed, ReadLabel, ReadListArgs, ReadLocal, ReadLoneArg, ReadMoreTargets, ReadOperand, ReadParen, ReadPower, ReadPrefix, ReadRepeat, ReadReturn, ReadSimple, ReadStat, ReadSuffix, ReadSuffixes, ReadTable, ReadTableExpr, ReadVariable, ReadWhile};
+ghost use Rattle.luf_parse.specs.Follow.{IsAssigned, NotAssigned, NotString, IsSeparator, stops_stats, ends_return};
+ghost use Rattle.luf_parse.specs.Parts.{ReadArgs, ReadArm, ReadArms, ReadAssign, ReadBlock, ReadChain, ReadCount, ReadDo, ReadElse, ReadEnded, ReadExpr, ReadExprStat, ReadExprs, ReadField, ReadFields, ReadFor, ReadForStep, ReadFuncBody, ReadFunction, ReadFunctionStat, ReadGoto, ReadHead, ReadIf, ReadKeyed, ReadLabel, ReadListArgs, ReadLocal, ReadLoneArg, ReadMoreTargets, ReadOperand, ReadParen, ReadPower, ReadPrefix, ReadRepeat, ReadReturn, ReadSemicolon, ReadSimple, ReadStat, ReadSuffix, ReadSuffixes, ReadTable, ReadTableExpr, ReadVariable, ReadWhile};
 
 use crate::ParseErr;
 use crate::names::{declared, method, names, params, path};
@@ -183,7 +184,8 @@ fn simple(alloc: Global, cut: &Cut, left: u32, at: u32) -> Result<Expr, ParseErr
 
 /// What a token is that is an expression by itself.
 fn leaf(tok: Tok) -> Option<ExprKind>
-    ensures { IfSome result (λ kind. IsLeaf tok kind) }
+    ensures leaf { IfSome result (λ kind. IsLeaf tok kind) }
+    ensures kind { result ≡ leaf_kind tok }
 {
     match tok {
         Tok::Word(Word::Nil) => Some(ExprKind::Nil),
@@ -275,9 +277,10 @@ fn fields(alloc: Global, cut: &Cut, left: u32, mut at: u32) -> Result<(Items<Fie
 
 /// The place after a `,` or a `;`.
 fn separator(cut: &Cut, at: u32) -> Option<u32>
-    ensures some { IfSome result (λ next. IsToken (toks_of cut.now) at (Tok.Sign sign.Comma) next ⊎ IsToken (toks_of cut.now) at (Tok.Sign sign.Semicolon) next) }
+    ensures some { IfSome result (λ next. IsSeparator (toks_of cut.now) at next) }
     ensures forward { IfSome result (λ next. next ≡ at + 1) }
     ensures within { IfSome result (λ next. next ≤ length (toks_of cut.now)) }
+    ensures none { IfNone result ((next : ℕ) → IsSeparator (toks_of cut.now) at next → ⊥) }
 {
     match take(cut, at)? {
         (Tok::Sign(Sign::Comma), next) => Some(next),
@@ -298,16 +301,23 @@ fn field(alloc: Global, cut: &Cut, left: u32, at: u32) -> Result<(Field, u32), P
     if let Some(inside) = eat(cut, at, Tok::Sign(Sign::LeftBracket)) {
         return keyed(alloc, cut, left, at, inside);
     }
-    if let Some(after) = eat(cut, at, Tok::Name) {
-        if let Some(from) = eat(cut, after, Tok::Sign(Sign::Assign)) {
-            let value = expr(alloc, cut, left, from, 1)?;
-            let to = value.to;
-            return Ok((Field::Named { name: at, value }, to));
-        }
+    if let Some(from) = assigned(cut, at) {
+        let value = expr(alloc, cut, left, from, 1)?;
+        let to = value.to;
+        return Ok((Field::Named { name: at, value }, to));
     }
     let value = expr(alloc, cut, left, at, 1)?;
     let to = value.to;
     Ok((Field::Item(value), to))
+}
+
+/// The place after a name and a `=`.
+fn assigned(cut: &Cut, at: u32) -> Option<u32>
+    ensures some { IfSome result (λ from. IsAssigned (toks_of cut.now) at from) }
+    ensures none { IfNone result (NotAssigned (toks_of cut.now) at) }
+{
+    let after = eat(cut, at, Tok::Name)?;
+    eat(cut, after, Tok::Sign(Sign::Assign))
 }
 
 /// `'[' exp ']' '=' exp` behind its `[`.
@@ -580,6 +590,7 @@ fn string(cut: &Cut, at: u32) -> Option<u32>
     ensures some { IfSome result (λ to. IsString (toks_of cut.now) at to) }
     ensures forward { IfSome result (λ to. to ≡ at + 1) }
     ensures within { IfSome result (λ to. to ≤ length (toks_of cut.now)) }
+    ensures none { IfNone result (NotString (toks_of cut.now) at) }
 {
     match take(cut, at)? {
         (Tok::Short, to) => Some(to),
@@ -646,7 +657,9 @@ pub fn block(alloc: Global, cut: &Cut, left: u32, at: u32) -> Result<Block, Pars
 }
 
 /// Whether no statement but a `return` may stand at a place.
-fn ends_block(cut: &Cut, at: u32) -> bool {
+fn ends_block(cut: &Cut, at: u32) -> bool
+    ensures { result ≡ stops_stats (slice_get (toks_of cut.now) at) }
+{
     matches!(
         cut.token(at),
         None | Some(Tok::Word(Word::End | Word::Else | Word::ElseIf | Word::Until | Word::Return))
@@ -663,7 +676,7 @@ fn last(alloc: Global, cut: &Cut, left: u32, at: u32) -> Result<Stat, ParseErr>
     ensures none { IfErr result (Refutes (ReadReturn (toks_of cut.now) left at)) }
 {
     let next = expect(cut, at, Tok::Word(Word::Return))?;
-    if ends_block(cut, next) || cut.is_at(next, Tok::Sign(Sign::Semicolon)) {
+    if ends_return(cut, next) {
         return Ok(Stat {
             from: at,
             to: semicolon(cut, next),
@@ -678,10 +691,24 @@ fn last(alloc: Global, cut: &Cut, left: u32, at: u32) -> Result<Stat, ParseErr>
     })
 }
 
+/// Whether a `return` before a place has no values.
+fn ends_return(cut: &Cut, at: u32) -> bool
+    ensures { result ≡ ends_return (slice_get (toks_of cut.now) at) }
+{
+    matches!(
+        cut.token(at),
+        None | Some(
+            Tok::Word(Word::End | Word::Else | Word::ElseIf | Word::Until | Word::Return)
+                | Tok::Sign(Sign::Semicolon)
+        )
+    )
+}
+
 /// The place after `[';']`.
 fn semicolon(cut: &Cut, at: u32) -> u32
     requires { at ≤ length (toks_of cut.now) }
-    ensures { Found (toks_of cut.now) at result 0 0 (IsSemicolon (toks_of cut.now) at result) }
+    ensures only { Alone (ReadSemicolon (toks_of cut.now) at) result }
+    ensures found { Found (toks_of cut.now) at result 0 0 (IsSemicolon (toks_of cut.now) at result) }
 {
     match eat(cut, at, Tok::Sign(Sign::Semicolon)) {
         Some(next) => next,
@@ -931,10 +958,8 @@ fn for_stat(alloc: Global, cut: &Cut, left: u32, at: u32, next: u32) -> Result<S
     ensures only { IfOk result (Alone (ReadFor (toks_of cut.now) left at next)) }
     ensures none { IfErr result (Refutes (ReadFor (toks_of cut.now) left at next)) }
 {
-    if let Some(after) = eat(cut, next, Tok::Name) {
-        if let Some(from) = eat(cut, after, Tok::Sign(Sign::Assign)) {
-            return count_stat(alloc, cut, left, at, next, after, from);
-        }
+    if let Some(from) = assigned(cut, next) {
+        return count_stat(alloc, cut, left, at, next, from);
     }
     let (names, close) = names(alloc, cut, next)?;
     let from = expect(cut, close, Tok::Word(Word::In))?;
@@ -960,13 +985,11 @@ fn count_stat(
     left: u32,
     at: u32,
     name: u32,
-    after: u32,
     from: u32,
 ) -> Result<Stat, ParseErr>
     requires left { left ≤ 200 }
     requires word { IsToken (toks_of cut.now) at (Tok.Word word.For) name }
-    requires name { IsToken (toks_of cut.now) name Tok.Name after }
-    requires sign { IsToken (toks_of cut.now) after (Tok.Sign sign.Assign) from }
+    requires name { IsAssigned (toks_of cut.now) name from }
     ensures ok { IfOk result (λ s. Found (toks_of cut.now) (at + 1) (out-Stat s).to left (stat_levels s) (IsStat (toks_of cut.now) at (out-Stat s).to s)) }
     ensures err { IfErr result (IsRefusal (toks_of cut.now)) }
     ensures only { IfOk result (Alone (ReadCount (toks_of cut.now) left at name from)) }
