@@ -479,3 +479,402 @@ simple-returns-in-Some-leaf-clause-ok t c =
     let t : IsToken (toks_of c.args.cut.now) c.args.at c.in-Some.tok c.in-Some.to = record { there = cc (h0.token.there, c.in-Some.tok-is); next = omega (arith, h0.token.next, c.in-Some.to-is) } in
     let leaf = h1 (toks_of c.args.cut.now) c.args.at c.in-Some.to t in
     record { derived = leaf.0; forward = omega (arith, t.next); within = omega (arith, h0.within, c.in-Some.to-is); level = omega (arith, leaf.1) }
+
+pub args-returns-in-Some-clause-only : goal.args-returns-in-Some-clause-only
+args-returns-in-Some-clause-only t c = ?
+
+pub args-returns-in-Some-clause-none : goal.args-returns-in-Some-clause-none
+args-returns-in-Some-clause-none t c = ?
+
+pub args-returns-clause-only : goal.args-returns-clause-only
+args-returns-clause-only t c = ?
+
+pub arm-returns-in_err-test-clause-none : goal.arm-returns-in_err-test-clause-none
+arm-returns-in_err-test-clause-none t c = ?
+
+pub arm-returns-in_err-inside-clause-none : goal.arm-returns-in_err-inside-clause-none
+arm-returns-in_err-inside-clause-none t c = ?
+
+pub arm-returns-in_err-inner-clause-none : goal.arm-returns-in_err-inner-clause-none
+arm-returns-in_err-inner-clause-none t c = ?
+
+pub arm-returns-in_err-body-clause-none : goal.arm-returns-in_err-body-clause-none
+arm-returns-in_err-body-clause-none t c = ?
+
+pub arm-returns-clause-only : goal.arm-returns-clause-only
+arm-returns-clause-only t c = ?
+
+pub arms-returns-in_err-one-clause-none : goal.arms-returns-in_err-one-clause-none
+arms-returns-in_err-one-clause-none t c = ?
+
+pub arms-returns-in-None-clause-only : goal.arms-returns-in-None-clause-only
+arms-returns-in-None-clause-only t c = ?
+
+pub assign-returns-in_err-targets-clause-none : goal.assign-returns-in_err-targets-clause-none
+assign-returns-in_err-targets-clause-none t c = ?
+
+pub assign-returns-in_err-from-clause-none : goal.assign-returns-in_err-from-clause-none
+assign-returns-in_err-from-clause-none t c = ?
+
+pub assign-returns-in_err-values-clause-none : goal.assign-returns-in_err-values-clause-none
+assign-returns-in_err-values-clause-none t c = ?
+
+pub assign-returns-clause-only : goal.assign-returns-clause-only
+assign-returns-clause-only t c = ?
+
+pub block-returns-in_err-one-clause-none : goal.block-returns-in_err-one-clause-none
+block-returns-in_err-one-clause-none t c = ?
+
+pub block-returns-then-is_at-clause-only : goal.block-returns-then-is_at-clause-only
+block-returns-then-is_at-clause-only t c = ?
+
+pub block-returns-clause-only : goal.block-returns-clause-only
+block-returns-clause-only t c = ?
+
+pub chain-returns-in_err-right-clause-none : goal.chain-returns-in_err-right-clause-none
+chain-returns-in_err-right-clause-none t c = ?
+
+pub chain-returns-then-level_at-level-clause-only : goal.chain-returns-then-level_at-level-clause-only
+chain-returns-then-level_at-level-clause-only t c = ?
+
+pub do_stat-returns-in_err-body-clause-none : goal.do_stat-returns-in_err-body-clause-none
+do_stat-returns-in_err-body-clause-none t c = ?
+
+pub do_stat-returns-clause-only : goal.do_stat-returns-clause-only
+do_stat-returns-clause-only t c = ?
+
+pub else_block-returns-in_err-inner-clause-none : goal.else_block-returns-in_err-inner-clause-none
+else_block-returns-in_err-inner-clause-none t c = ?
+
+pub else_block-returns-in_err-body-clause-none : goal.else_block-returns-in_err-body-clause-none
+else_block-returns-in_err-body-clause-none t c = ?
+
+pub else_block-returns-clause-only : goal.else_block-returns-clause-only
+else_block-returns-clause-only t c = ?
+
+pub ended_block-returns-in_err-inner-clause-none : goal.ended_block-returns-in_err-inner-clause-none
+ended_block-returns-in_err-inner-clause-none t c = ?
+
+pub expr-returns-in_err-whole-clause-none : goal.expr-returns-in_err-whole-clause-none
+expr-returns-in_err-whole-clause-none t c = ?
+
+pub expr-returns-then-level-least-clause-only : goal.expr-returns-then-level-least-clause-only
+expr-returns-then-level-least-clause-only t c = ?
+
+pub expr-returns-in_err-whole-2-clause-none : goal.expr-returns-in_err-whole-2-clause-none
+expr-returns-in_err-whole-2-clause-none t c = ?
+
+pub exprs-returns-in_err-one-clause-none : goal.exprs-returns-in_err-one-clause-none
+exprs-returns-in_err-one-clause-none t c = ?
+
+pub exprs-returns-in-None-clause-only : goal.exprs-returns-in-None-clause-only
+exprs-returns-in-None-clause-only t c = ?
+
+pub fields-returns-then-is_at-clause-only : goal.fields-returns-then-is_at-clause-only
+fields-returns-then-is_at-clause-only t c = ?
+
+pub fields-returns-in_err-one-clause-none : goal.fields-returns-in_err-one-clause-none
+fields-returns-in_err-one-clause-none t c = ?
+
+pub fields-returns-in-None-clause-only : goal.fields-returns-in-None-clause-only
+fields-returns-in-None-clause-only t c = ?
+
+pub for_step-returns-in_err-step-clause-none : goal.for_step-returns-in_err-step-clause-none
+for_step-returns-in_err-step-clause-none t c = ?
+
+pub for_step-returns-clause-only : goal.for_step-returns-clause-only
+for_step-returns-clause-only t c = ?
+
+pub func_body-returns-in_err-first-clause-none : goal.func_body-returns-in_err-first-clause-none
+func_body-returns-in_err-first-clause-none t c = ?
+
+pub func_body-returns-in_err-params-clause-none : goal.func_body-returns-in_err-params-clause-none
+func_body-returns-in_err-params-clause-none t c = ?
+
+pub func_body-returns-in_err-inside-clause-none : goal.func_body-returns-in_err-inside-clause-none
+func_body-returns-in_err-inside-clause-none t c = ?
+
+pub func_body-returns-in_err-body-clause-none : goal.func_body-returns-in_err-body-clause-none
+func_body-returns-in_err-body-clause-none t c = ?
+
+pub func_body-returns-in_err-to-clause-none : goal.func_body-returns-in_err-to-clause-none
+func_body-returns-in_err-to-clause-none t c = ?
+
+pub func_body-returns-clause-only : goal.func_body-returns-clause-only
+func_body-returns-clause-only t c = ?
+
+pub function-returns-in_err-inner-clause-none : goal.function-returns-in_err-inner-clause-none
+function-returns-in_err-inner-clause-none t c = ?
+
+pub function_stat-returns-in_err-inner-clause-none : goal.function_stat-returns-in_err-inner-clause-none
+function_stat-returns-in_err-inner-clause-none t c = ?
+
+pub head-returns-in-Some-clause-only : goal.head-returns-in-Some-clause-only
+head-returns-in-Some-clause-only t c = ?
+
+pub head-returns-clause-only : goal.head-returns-clause-only
+head-returns-clause-only t c = ?
+
+pub keyed-returns-in_err-inner-clause-none : goal.keyed-returns-in_err-inner-clause-none
+keyed-returns-in_err-inner-clause-none t c = ?
+
+pub list_args-returns-in_err-inner-clause-none : goal.list_args-returns-in_err-inner-clause-none
+list_args-returns-in_err-inner-clause-none t c = ?
+
+pub local_stat-returns-in_err-inner-clause-none : goal.local_stat-returns-in_err-inner-clause-none
+local_stat-returns-in_err-inner-clause-none t c = ?
+
+pub local_stat-returns-in_err-inside-clause-none : goal.local_stat-returns-in_err-inside-clause-none
+local_stat-returns-in_err-inside-clause-none t c = ?
+
+pub local_stat-returns-in_err-body-clause-none : goal.local_stat-returns-in_err-body-clause-none
+local_stat-returns-in_err-body-clause-none t c = ?
+
+pub local_stat-returns-in-Some-clause-only : goal.local_stat-returns-in-Some-clause-only
+local_stat-returns-in-Some-clause-only t c = ?
+
+pub local_stat-returns-in_err-values-clause-none : goal.local_stat-returns-in_err-values-clause-none
+local_stat-returns-in_err-values-clause-none t c = ?
+
+pub local_stat-returns-clause-only : goal.local_stat-returns-clause-only
+local_stat-returns-clause-only t c = ?
+
+pub lone_arg-returns-in_err-enter-clause-none : goal.lone_arg-returns-in_err-enter-clause-none
+lone_arg-returns-in_err-enter-clause-none t c = ?
+
+pub lone_arg-returns-in-Some-clause-only : goal.lone_arg-returns-in-Some-clause-only
+lone_arg-returns-in-Some-clause-only t c = ?
+
+pub lone_arg-returns-in_err-expect-clause-none : goal.lone_arg-returns-in_err-expect-clause-none
+lone_arg-returns-in_err-expect-clause-none t c = ?
+
+pub lone_arg-returns-in_err-inner-clause-none : goal.lone_arg-returns-in_err-inner-clause-none
+lone_arg-returns-in_err-inner-clause-none t c = ?
+
+pub lone_arg-returns-in_err-fields-clause-none : goal.lone_arg-returns-in_err-fields-clause-none
+lone_arg-returns-in_err-fields-clause-none t c = ?
+
+pub lone_arg-returns-clause-only : goal.lone_arg-returns-clause-only
+lone_arg-returns-clause-only t c = ?
+
+pub operand-returns-in_default-clause-none : goal.operand-returns-in_default-clause-none
+operand-returns-in_default-clause-none t c = ?
+
+pub operand-returns-in_err-inner-clause-none : goal.operand-returns-in_err-inner-clause-none
+operand-returns-in_err-inner-clause-none t c = ?
+
+pub operand-returns-in_err-operand-clause-none : goal.operand-returns-in_err-operand-clause-none
+operand-returns-in_err-operand-clause-none t c = ?
+
+pub operand-returns-then-is_unary-clause-only : goal.operand-returns-then-is_unary-clause-only
+operand-returns-then-is_unary-clause-only t c = ?
+
+pub operand-returns-clause-only : goal.operand-returns-clause-only
+operand-returns-clause-only t c = ?
+
+pub operand-returns-clause-none : goal.operand-returns-clause-none
+operand-returns-clause-none t c = ?
+
+pub paren-returns-in_err-next-clause-none : goal.paren-returns-in_err-next-clause-none
+paren-returns-in_err-next-clause-none t c = ?
+
+pub paren-returns-in_err-inner-clause-none : goal.paren-returns-in_err-inner-clause-none
+paren-returns-in_err-inner-clause-none t c = ?
+
+pub paren-returns-in_err-inside-clause-none : goal.paren-returns-in_err-inside-clause-none
+paren-returns-in_err-inside-clause-none t c = ?
+
+pub paren-returns-in_err-to-clause-none : goal.paren-returns-in_err-to-clause-none
+paren-returns-in_err-to-clause-none t c = ?
+
+pub paren-returns-clause-only : goal.paren-returns-clause-only
+paren-returns-clause-only t c = ?
+
+pub power-returns-in_err-inner-clause-none : goal.power-returns-in_err-inner-clause-none
+power-returns-in_err-inner-clause-none t c = ?
+
+pub power-returns-in_err-exponent-clause-none : goal.power-returns-in_err-exponent-clause-none
+power-returns-in_err-exponent-clause-none t c = ?
+
+pub power-returns-clause-only : goal.power-returns-clause-only
+power-returns-clause-only t c = ?
+
+pub prefix-returns-in_err-head-clause-none : goal.prefix-returns-in_err-head-clause-none
+prefix-returns-in_err-head-clause-none t c = ?
+
+pub prefix-returns-then-not-begins_suffix-clause-only : goal.prefix-returns-then-not-begins_suffix-clause-only
+prefix-returns-then-not-begins_suffix-clause-only t c = ?
+
+pub prefix-returns-in_err-found-clause-none : goal.prefix-returns-in_err-found-clause-none
+prefix-returns-in_err-found-clause-none t c = ?
+
+pub prefix-returns-clause-only : goal.prefix-returns-clause-only
+prefix-returns-clause-only t c = ?
+
+pub repeat_stat-returns-in_err-inner-clause-none : goal.repeat_stat-returns-in_err-inner-clause-none
+repeat_stat-returns-in_err-inner-clause-none t c = ?
+
+pub simple-returns-in_default-clause-none : goal.simple-returns-in_default-clause-none
+simple-returns-in_default-clause-none t c = ?
+
+pub simple-returns-in-Word-Function-clause-only : goal.simple-returns-in-Word-Function-clause-only
+simple-returns-in-Word-Function-clause-only t c = ?
+
+pub simple-returns-in-Word-Function-clause-none : goal.simple-returns-in-Word-Function-clause-none
+simple-returns-in-Word-Function-clause-none t c = ?
+
+pub simple-returns-in-Sign-LeftBrace-clause-only : goal.simple-returns-in-Sign-LeftBrace-clause-only
+simple-returns-in-Sign-LeftBrace-clause-only t c = ?
+
+pub simple-returns-in-Sign-LeftBrace-clause-none : goal.simple-returns-in-Sign-LeftBrace-clause-none
+simple-returns-in-Sign-LeftBrace-clause-none t c = ?
+
+pub simple-returns-in-Some-leaf-clause-only : goal.simple-returns-in-Some-leaf-clause-only
+simple-returns-in-Some-leaf-clause-only t c = ?
+
+pub simple-returns-in_err-found-clause-none : goal.simple-returns-in_err-found-clause-none
+simple-returns-in_err-found-clause-none t c = ?
+
+pub simple-returns-clause-only : goal.simple-returns-clause-only
+simple-returns-clause-only t c = ?
+
+pub stat-returns-in-Some-Word-If-default-clause-only : goal.stat-returns-in-Some-Word-If-default-clause-only
+stat-returns-in-Some-Word-If-default-clause-only t c = ?
+
+pub stat-returns-in-Some-Word-If-default-clause-none : goal.stat-returns-in-Some-Word-If-default-clause-none
+stat-returns-in-Some-Word-If-default-clause-none t c = ?
+
+pub stat-returns-in-Some-Word-While-default-clause-only : goal.stat-returns-in-Some-Word-While-default-clause-only
+stat-returns-in-Some-Word-While-default-clause-only t c = ?
+
+pub stat-returns-in-Some-Word-While-default-clause-none : goal.stat-returns-in-Some-Word-While-default-clause-none
+stat-returns-in-Some-Word-While-default-clause-none t c = ?
+
+pub stat-returns-in-Some-Word-Do-default-clause-only : goal.stat-returns-in-Some-Word-Do-default-clause-only
+stat-returns-in-Some-Word-Do-default-clause-only t c = ?
+
+pub stat-returns-in-Some-Word-Do-default-clause-none : goal.stat-returns-in-Some-Word-Do-default-clause-none
+stat-returns-in-Some-Word-Do-default-clause-none t c = ?
+
+pub stat-returns-in-Some-Word-For-default-clause-only : goal.stat-returns-in-Some-Word-For-default-clause-only
+stat-returns-in-Some-Word-For-default-clause-only t c = ?
+
+pub stat-returns-in-Some-Word-For-default-clause-none : goal.stat-returns-in-Some-Word-For-default-clause-none
+stat-returns-in-Some-Word-For-default-clause-none t c = ?
+
+pub stat-returns-in-Some-Word-Repeat-default-clause-only : goal.stat-returns-in-Some-Word-Repeat-default-clause-only
+stat-returns-in-Some-Word-Repeat-default-clause-only t c = ?
+
+pub stat-returns-in-Some-Word-Repeat-default-clause-none : goal.stat-returns-in-Some-Word-Repeat-default-clause-none
+stat-returns-in-Some-Word-Repeat-default-clause-none t c = ?
+
+pub stat-returns-in-Some-Word-Function-default-clause-only : goal.stat-returns-in-Some-Word-Function-default-clause-only
+stat-returns-in-Some-Word-Function-default-clause-only t c = ?
+
+pub stat-returns-in-Some-Word-Function-default-clause-none : goal.stat-returns-in-Some-Word-Function-default-clause-none
+stat-returns-in-Some-Word-Function-default-clause-none t c = ?
+
+pub stat-returns-in-Some-Word-Local-default-clause-only : goal.stat-returns-in-Some-Word-Local-default-clause-only
+stat-returns-in-Some-Word-Local-default-clause-only t c = ?
+
+pub stat-returns-in-Some-Word-Local-default-clause-none : goal.stat-returns-in-Some-Word-Local-default-clause-none
+stat-returns-in-Some-Word-Local-default-clause-none t c = ?
+
+pub stat-returns-in-Some-Word-Goto-default-clause-only : goal.stat-returns-in-Some-Word-Goto-default-clause-only
+stat-returns-in-Some-Word-Goto-default-clause-only t c = ?
+
+pub stat-returns-in-Some-Word-Goto-default-clause-none : goal.stat-returns-in-Some-Word-Goto-default-clause-none
+stat-returns-in-Some-Word-Goto-default-clause-none t c = ?
+
+pub stat-returns-in-Some-Word-Break-default-clause-only : goal.stat-returns-in-Some-Word-Break-default-clause-only
+stat-returns-in-Some-Word-Break-default-clause-only t c = ?
+
+pub stat-returns-in-Some-Sign-DoubleColon-default-clause-only : goal.stat-returns-in-Some-Sign-DoubleColon-default-clause-only
+stat-returns-in-Some-Sign-DoubleColon-default-clause-only t c = ?
+
+pub stat-returns-in-Some-Sign-DoubleColon-default-clause-none : goal.stat-returns-in-Some-Sign-DoubleColon-default-clause-none
+stat-returns-in-Some-Sign-DoubleColon-default-clause-none t c = ?
+
+pub stat-returns-in-Some-Sign-Semicolon-default-clause-only : goal.stat-returns-in-Some-Sign-Semicolon-default-clause-only
+stat-returns-in-Some-Sign-Semicolon-default-clause-only t c = ?
+
+pub stat-returns-in_default-clause-only : goal.stat-returns-in_default-clause-only
+stat-returns-in_default-clause-only t c = ?
+
+pub stat-returns-in_default-clause-none : goal.stat-returns-in_default-clause-none
+stat-returns-in_default-clause-none t c = ?
+
+pub suffix-returns-in_err-to-clause-none : goal.suffix-returns-in_err-to-clause-none
+suffix-returns-in_err-to-clause-none t c = ?
+
+pub suffix-returns-in-Some-clause-only : goal.suffix-returns-in-Some-clause-only
+suffix-returns-in-Some-clause-only t c = ?
+
+pub suffix-returns-in_err-inner-clause-none : goal.suffix-returns-in_err-inner-clause-none
+suffix-returns-in_err-inner-clause-none t c = ?
+
+pub suffix-returns-in_err-key-clause-none : goal.suffix-returns-in_err-key-clause-none
+suffix-returns-in_err-key-clause-none t c = ?
+
+pub suffix-returns-in_err-to-2-clause-none : goal.suffix-returns-in_err-to-2-clause-none
+suffix-returns-in_err-to-2-clause-none t c = ?
+
+pub suffix-returns-in-Some-eat-clause-only : goal.suffix-returns-in-Some-eat-clause-only
+suffix-returns-in-Some-eat-clause-only t c = ?
+
+pub suffix-returns-in_err-after-clause-none : goal.suffix-returns-in_err-after-clause-none
+suffix-returns-in_err-after-clause-none t c = ?
+
+pub suffix-returns-in_err-given-clause-none : goal.suffix-returns-in_err-given-clause-none
+suffix-returns-in_err-given-clause-none t c = ?
+
+pub suffix-returns-in-Some-eat-2-clause-only : goal.suffix-returns-in-Some-eat-2-clause-only
+suffix-returns-in-Some-eat-2-clause-only t c = ?
+
+pub suffix-returns-in_err-given-2-clause-none : goal.suffix-returns-in_err-given-2-clause-none
+suffix-returns-in_err-given-2-clause-none t c = ?
+
+pub suffix-returns-clause-only : goal.suffix-returns-clause-only
+suffix-returns-clause-only t c = ?
+
+pub suffixes-returns-in_err-one-clause-none : goal.suffixes-returns-in_err-one-clause-none
+suffixes-returns-in_err-one-clause-none t c = ?
+
+pub suffixes-returns-then-not-begins_suffix-clause-only : goal.suffixes-returns-then-not-begins_suffix-clause-only
+suffixes-returns-then-not-begins_suffix-clause-only t c = ?
+
+pub table-returns-in_err-first-clause-none : goal.table-returns-in_err-first-clause-none
+table-returns-in_err-first-clause-none t c = ?
+
+pub table-returns-in_err-inner-clause-none : goal.table-returns-in_err-inner-clause-none
+table-returns-in_err-inner-clause-none t c = ?
+
+pub table-returns-in_err-found-clause-none : goal.table-returns-in_err-found-clause-none
+table-returns-in_err-found-clause-none t c = ?
+
+pub table-returns-in_err-to-clause-none : goal.table-returns-in_err-to-clause-none
+table-returns-in_err-to-clause-none t c = ?
+
+pub table-returns-clause-only : goal.table-returns-clause-only
+table-returns-clause-only t c = ?
+
+pub targets-returns-in_default-clause-only : goal.targets-returns-in_default-clause-only
+targets-returns-in_default-clause-only t c = ?
+
+pub targets-returns-in_err-one-clause-none : goal.targets-returns-in_err-one-clause-none
+targets-returns-in_err-one-clause-none t c = ?
+
+pub variable-returns-in_err-prefix-clause-none : goal.variable-returns-in_err-prefix-clause-none
+variable-returns-in_err-prefix-clause-none t c = ?
+
+pub variable-returns-in-Variable-clause-only : goal.variable-returns-in-Variable-clause-only
+variable-returns-in-Variable-clause-only t c = ?
+
+pub variable-returns-in_default : goal.variable-returns-in_default
+variable-returns-in_default t c = ?
+
+pub while_stat-returns-in_err-body-clause-none : goal.while_stat-returns-in_err-body-clause-none
+while_stat-returns-in_err-body-clause-none t c = ?
+
+pub while_stat-returns-clause-only : goal.while_stat-returns-clause-only
+while_stat-returns-clause-only t c = ?

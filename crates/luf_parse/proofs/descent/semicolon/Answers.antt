@@ -2,10 +2,10 @@ use Rattle.std.proofs.Common.{arith}
 use Rattle.luf_tree.specs.Grammar.{no_semicolon, a_semicolon}
 use Rattle.luf_parse.proofs.descent.semicolon.Goals as goal
 
-pub returns-in-Some : goal.returns-in-Some
-returns-in-Some c =
+pub returns-in-Some-clause-found : goal.returns-in-Some-clause-found
+returns-in-Some-clause-found c =
     let h0 = c.in-Some.ensures in
     record { derived = a_semicolon h0.token; forward = omega arith; within = omega arith; level = omega arith }
 
-pub returns-in-None : goal.returns-in-None
-returns-in-None c = record { derived = no_semicolon; forward = omega arith; within = omega arith; level = omega arith }
+pub returns-in-None-clause-found : goal.returns-in-None-clause-found
+returns-in-None-clause-found c = record { derived = no_semicolon; forward = omega arith; within = omega arith; level = omega arith }
