@@ -16,7 +16,7 @@ pub same_end : {toks : List Tok} {i j k : ℕ} {t u : Tok} → IsToken toks i t 
 same_end t u = let a = t.next in let b = u.next in omega arith
 
 -- behind two tokens from the same place
-second_end : {toks : List Tok} {i j k l m : ℕ} {t u v w : Tok} → IsToken toks i t j → IsToken toks j u k → IsToken toks i v l → IsToken toks l w m → k ≡ m
+pub second_end : {toks : List Tok} {i j k l m : ℕ} {t u v w : Tok} → IsToken toks i t j → IsToken toks j u k → IsToken toks i v l → IsToken toks l w m → k ≡ m
 second_end t u v w = let a = t.next in let b = u.next in let c = v.next in let d = w.next in omega arith
 
 abbrev pub AttributeForm : List Tok → ℕ → (Option ℕ × ℕ) → Type 0

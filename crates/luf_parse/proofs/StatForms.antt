@@ -1,6 +1,6 @@
 -- Each statement and block that is looked for at a place, in the form in which it is read: from the token that stands
 -- there, one part after another.
-use Rattle.std.proofs.Common.{◌≡◌, ℕ, suc, ◌+◌, ◌<◌, ◌≤◌, ◌⊎◌, inl, inr, Bool, true, false, Option, Some, None, List, [], ◌∷◌, length, map, max, refl, sym, ap, ◌∙◌, subst, arith}
+use Rattle.std.proofs.Common.{◌≡◌, ℕ, suc, ◌+◌, ◌-◌, ◌<◌, ◌≤◌, ◌⊎◌, inl, inr, Bool, true, false, Option, Some, None, List, [], ◌∷◌, length, map, max, refl, sym, ap, ◌∙◌, subst, arith}
 use Rattle.std.specs.Prelude.{slice_get}
 use Rattle.std.specs.Option.{option_map}
 use Rattle.luf_lex.specs.declared.token.Tok.{Tok}
@@ -30,15 +30,19 @@ use Rattle.luf_tree.specs.Grammar as g
 use Rattle.luf_tree.specs.Grammar.{At, expression, statement, IsToken, IsString, AreNames, AreParams, IsAttribute, AreDeclared, IsPath, IsMethod, IsSemicolon, IsExpr, AreSteps, IsOperand, IsSimple, IsPrefix, IsVariable, IsCall, IsParen, IsHead, AreSuffixes, IsSuffix, IsArgs, AreExprs, IsTable, AreFields, IsField, IsFuncBody, IsBlock, AreStats, IsReturn, IsStat, AreTargets, IsArm, AreArms, IsElse, IsForStep}
 use Rattle.luf_tree.proofs.LevelEquations as lv
 use Rattle.luf_parse.specs.Exact.{Alone, Then, Enters}
-use Rattle.luf_parse.specs.Follow.{NotAt, NotAssigned, NotString, IsSeparator, continues_prefix, EndsOperand, EndsExpr, EndsExprs, ends_block, stops_stats, ends_return, EndsBlock, EndsStat, EndsArms, EndsField}
+use Rattle.luf_parse.specs.Follow.{NotAt, NotAssigned, NotString, IsSeparator, continues_prefix, EndsOperand, EndsExpr, EndsExprs, ends_block, stops_stats, ends_arms, follows_stat, ends_return, EndsBlock, EndsStat, EndsArms, EndsField}
 use Rattle.luf_parse.specs.Parts as parts
 use Rattle.luf_parse.specs.Parts.{Part, ReadExpr, ReadExprs, ReadFuncBody, ReadParams, ReadNames, ReadPath, ReadMethod, ReadDeclared, ReadBlock, ReadStats, ReadSemicolon, ReadReturn, ReadEnded, ReadStat, ReadLabel, ReadGoto, ReadDo, ReadWhile, ReadRepeat, ReadArms, ReadArm, ReadElse, ReadIf, ReadForStep, ReadCount, ReadForIn, ReadFor, ReadFunctionStat, ReadLocalFunction, ReadValues, ReadNamed, ReadLocal, ReadVariable, ReadTargets, ReadMoreTargets, ReadAssign, ReadShaped, ReadExprStat, ReadPrefix}
-use Rattle.luf_parse.specs.Reads.{begins_suffix, level_at}
+use Rattle.luf_parse.specs.Reads.{token_begins_suffix, begins_suffix, level_at}
 use Rattle.luf_parse.specs.Shapes.{IsShaped, suffixed_shape, lone_args, leaf_kind}
 use Rattle.luf_parse.specs.declared.descent.PrefixExpr.{PrefixExpr}
 use Rattle.luf_parse.specs.declared.descent.Shape.{Shape}
 use Rattle.luf_parse.specs.declared.descent.Shape.TheVariants.{Variable, Call, Paren}
 use Rattle.luf_parse.proofs.Exactness.{ListRest}
+use Rattle.luf_parse.proofs.NameForms.{same_end, second_end}
+use Rattle.luf_parse.proofs.Ends.{moved, expr_to, variable_to, call_to, body_to, block_to, return_to, stat_to}
+use Rattle.luf_parse.proofs.Following.{not_at, token_closes, stat_ends_expr, stat_ends_exprs, block_ends_stat, arms_end_block, block_ends_stats}
+use Rattle.luf_parse.proofs.Reading.{expr_read, variable_read, body_read, block_read, return_read, stat_read, ended_read, stats_follow, stat_goes, values_go, semicolon_ends_return, semicolon_ends_exprs, stat_ends_prefix}
 
 -- functions and blocks
 
@@ -48,29 +52,55 @@ FuncBodyForm toks left i =
     (λ to f. f ≡ roll-FuncBody (record { from = i; to = to; params = p.0; vararg = p.1; body = body }))))))
 
 pub func_body_form : {toks : List Tok} {left i : ℕ} → (f : FuncBody) → ReadFuncBody toks left i f → FuncBodyForm toks left i f
-func_body_form {toks} {left} {i} f h = ?
+func_body_form {toks} {left} {i} f h = form (out-FuncBody f).to f h.is h.level
+  where
+    form : (j : ℕ) (f : FuncBody) → IsFuncBody toks i j f → body_levels f ≤ left → FuncBodyForm toks left i f
+    form _ _ (g.func_body {j = j} {k = k} {l = l} {p = p} {params = params} {vararg = vararg} {body = body} t ps u d v) level = record { part = j; first = t; rest = record {
+      part = (params, vararg, k); first = record { is = ps; ends = u.there; level = omega arith }; rest = record { part = l; first = u; rest = record {
+      part = body; first = block_read d (ap ends_block v.there) (omega (arith, lv.body_of_levels i p params vararg body)); rest = record { part = p; first = moved (block_to d) v; rest = refl } } } } }
 
 abbrev pub BlockForm : List Tok → ℕ → ℕ → Block → Type 0
 BlockForm toks left i = Then (ReadStats toks left i) (λ r b. b ≡ roll-Block (record { from = i; to = r.1; stats = r.0 }))
 
 pub block_form : {toks : List Tok} {left i : ℕ} → (b : Block) → ReadBlock toks left i b → BlockForm toks left i b
-block_form {toks} {left} {i} b h = ?
+block_form {toks} {left} {i} b h = form (out-Block b).to b h.is h.ends h.level
+  where
+    form : (j : ℕ) (b : Block) → IsBlock toks i j b → EndsBlock toks j → block_levels b ≤ left → BlockForm toks left i b
+    form j _ (g.block {stats = stats} d) ends level = record { part = (stats, j); first = record { is = d; ends = ends; level = omega (arith, lv.block_of_levels i j stats) }; rest = refl }
 
 -- a statement, and the rest of them
 abbrev pub StatsForm : List Tok → ℕ → ℕ → (List Stat × ℕ) → Type 0
 StatsForm toks left i = Then (ReadStat toks left i) (λ s r. (rest : List Stat × ℕ) × ReadStats toks left (out-Stat s).to rest × (r ≡ (s ∷ rest.0, rest.1)))
 
 pub stats_form : {toks : List Tok} {left i : ℕ} → stops_stats (slice_get toks i) ≡ false → (r : List Stat × ℕ) → ReadStats toks left i r → StatsForm toks left i r
-stats_form {toks} {left} {i} goes r h = ?
+stats_form {toks} {left} {i} goes r h = form r.0 r.1 h.is h.ends h.level
+  where
+    form : (stats : List Stat) (k : ℕ) → AreStats toks i k stats → EndsBlock toks k → deepest (map stat_levels stats) ≤ left → StatsForm toks left i (stats, k)
+    form _ _ g.no_stats ends level = let stops = block_ends_stats toks i ends in absurd cc
+    form _ _ (g.last_stat (g.return_nothing t _)) ends level = let stops = ap stops_stats t.there in absurd cc
+    form _ _ (g.last_stat (g.return_values t _ _)) ends level = let stops = ap stops_stats t.there in absurd cc
+    form _ k (g.more_stats {s = s} {stats = stats} d rest) ends level = record { part = s; first = stat_read d (stats_follow rest ends) (omega arith);
+      rest = ((stats, k), subst (λ p. ReadStats toks left p (stats, k)) (sym (stat_to d)) (record { is = rest; ends = ends; level = omega arith }), refl) }
 
 abbrev pub LastForm : List Tok → ℕ → ℕ → (List Stat × ℕ) → Type 0
 LastForm toks left i = Then (ReadReturn toks left i) (λ s r. r ≡ (s ∷ [], (out-Stat s).to))
 
 pub last_form : {toks : List Tok} {left i : ℕ} → At toks i (Word word.Return) → (r : List Stat × ℕ) → ReadStats toks left i r → LastForm toks left i r
-last_form {toks} {left} {i} t r h = ?
+last_form {toks} {left} {i} t r h = form r.0 r.1 h.is h.ends h.level
+  where
+    form : (stats : List Stat) (j : ℕ) → AreStats toks i j stats → EndsBlock toks j → deepest (map stat_levels stats) ≤ left → LastForm toks left i (stats, j)
+    form _ _ g.no_stats ends level = let here = ap ends_block t in absurd cc
+    form _ j (g.last_stat {s = s} d) ends level = record { part = s; first = return_read d ends (omega arith); rest = ap (λ p. (s ∷ [], p)) (sym (return_to d)) }
+    form _ _ (g.more_stats d _) ends level = let here = ap stops_stats t in let goes = stat_goes d in absurd cc
 
 pub stats_end : {toks : List Tok} {left i : ℕ} → stops_stats (slice_get toks i) ≡ true → NotAt toks i (Word word.Return) → (r : List Stat × ℕ) → ReadStats toks left i r → r ≡ ([], i)
-stats_end {toks} {left} {i} stops other r h = ?
+stats_end {toks} {left} {i} stops other r h = form r.0 r.1 h.is
+  where
+    form : (stats : List Stat) (j : ℕ) → AreStats toks i j stats → ◌≡◌ {A = List Stat × ℕ} (stats, j) ([], i)
+    form _ _ g.no_stats = refl
+    form _ _ (g.last_stat (g.return_nothing t _)) = absurd (other t.there)
+    form _ _ (g.last_stat (g.return_values t _ _)) = absurd (other t.there)
+    form _ _ (g.more_stats d _) = let goes = stat_goes d in absurd cc
 
 abbrev pub EmptyReturnForm : List Tok → ℕ → ℕ → Stat → Type 0
 EmptyReturnForm toks i next = Then (ReadSemicolon toks next) (λ to s. s ≡ statement i to (stat.Return []))
@@ -87,13 +117,32 @@ abbrev pub ReturnForm : List Tok → ℕ → ℕ → Stat → Type 0
 ReturnForm toks left i = Then (IsToken toks i (Word word.Return)) (λ next. ReturnRest toks left i next)
 
 pub return_form : {toks : List Tok} {left i : ℕ} → (s : Stat) → ReadReturn toks left i s → ReturnForm toks left i s
-return_form {toks} {left} {i} s h = ?
+return_form {toks} {left} {i} s h = form (out-Stat s).to s h.is h.ends h.level
+  where
+    form : (j : ℕ) (s : Stat) → IsReturn toks i j s → EndsBlock toks j → stat_levels s ≤ left → ReturnForm toks left i s
+    form _ _ (g.return_nothing {j = j} {k = k} t d) ends level = record { part = j; first = t; rest = record {
+      empty = λ here. record { part = k; first = (d, ends); rest = refl };
+      values = λ none. let here = semicolon_ends_return d ends in absurd cc;
+    } }
+    form _ _ (g.return_values {j = j} {k = k} {l = l} {es = es} t values d) ends level = record { part = j; first = t; rest = record {
+      empty = λ here. absurd (values_go values here);
+      values = λ none. record { part = (es, k); first = record { is = values; ends = semicolon_ends_exprs d ends; level = omega (arith, lv.return_levels i l es) };
+        rest = record { part = l; first = (d, ends); rest = refl } };
+    } }
 
 pub semicolon_some : {toks : List Tok} {i next : ℕ} → IsToken toks i (Sign sign.Semicolon) next → Alone (ReadSemicolon toks i) next
-semicolon_some {toks} {i} {next} t j h = ?
+semicolon_some {toks} {i} {next} t j h = form j h.0 h.1
+  where
+    form : (j : ℕ) → IsSemicolon toks i j → EndsBlock toks j → j ≡ next
+    form _ g.no_semicolon ends = let here = ap ends_block t.there in absurd cc
+    form _ (g.a_semicolon u) ends = same_end u t
 
 pub semicolon_none : {toks : List Tok} {i : ℕ} → NotAt toks i (Sign sign.Semicolon) → Alone (ReadSemicolon toks i) i
-semicolon_none {toks} {i} other j h = ?
+semicolon_none {toks} {i} other j h = form j h.0
+  where
+    form : (j : ℕ) → IsSemicolon toks i j → j ≡ i
+    form _ g.no_semicolon = refl
+    form _ (g.a_semicolon u) = absurd (other u.there)
 
 -- parts of statements
 
@@ -101,7 +150,16 @@ abbrev pub ArmsForm : List Tok → ℕ → ℕ → (List Arm × ℕ) → Type 0
 ArmsForm toks left i = Then (ReadArm toks left i) (λ a. ListRest (IsToken toks a.1 (Word word.ElseIf)) (λ next. ReadArms toks left next) a.0 a.1)
 
 pub arms_form : {toks : List Tok} {left i : ℕ} → (r : List Arm × ℕ) → ReadArms toks left i r → ArmsForm toks left i r
-arms_form {toks} {left} {i} r h = ?
+arms_form {toks} {left} {i} r h = form r.0 r.1 h.is h.ends h.level
+  where
+    form : (arms : List Arm) (j : ℕ) → AreArms toks i j arms → EndsArms toks j → deepest (map arm_levels arms) ≤ left → ArmsForm toks left i (arms, j)
+    form _ j (g.one_arm {first = first} d) ends level = record { part = (first, j); first = record { is = d; ends = arms_end_block toks j ends; level = omega arith };
+      rest = record { more = λ next u. let here = ap ends_arms u.there in absurd cc; last = λ none. refl } }
+    form _ l (g.more_arms {j = j} {first = first} {arms = arms} d t rest) ends level = record { part = (first, j); first = record { is = d; ends = ap ends_block t.there; level = omega arith };
+      rest = record {
+        more = λ next u. ((arms, l), subst (λ p. ReadArms toks left p (arms, l)) (same_end t u) (record { is = rest; ends = ends; level = omega arith }), refl);
+        last = λ none. absurd (none _ t);
+      } }
 
 abbrev pub ArmForm : List Tok → ℕ → ℕ → (Arm × ℕ) → Type 0
 ArmForm toks left i =
@@ -109,34 +167,64 @@ ArmForm toks left i =
     (λ body r. r ≡ (roll-Arm (record { test = test; body = body }), (out-Block body).to)))))
 
 pub arm_form : {toks : List Tok} {left i : ℕ} → (r : Arm × ℕ) → ReadArm toks left i r → ArmForm toks left i r
-arm_form {toks} {left} {i} r h = ?
+arm_form {toks} {left} {i} r h = form r.0 r.1 h.is h.ends h.level
+  where
+    form : (a : Arm) (j : ℕ) → IsArm toks i j a → EndsBlock toks j → arm_levels a ≤ left → ArmForm toks left i (a, j)
+    form _ l (g.arm {k = k} {e = e} {body = body} test t d) ends level = let levels = lv.arm_of_levels e body in record {
+      part = e; first = expr_read test (token_closes t.there refl refl refl) (omega arith); rest = record { part = k; first = moved (expr_to test) t; rest = record {
+      part = left - 1; first = omega arith; rest = record { part = body; first = block_read d ends (omega arith); rest = ap (λ p. (roll-Arm (record { test = e; body = body }), p)) (sym (block_to d)) } } } }
 
 abbrev pub ElseForm : List Tok → ℕ → ℕ → (Option Block × ℕ) → Type 0
 ElseForm toks left inside = Then (Enters left) (λ inner. Then (ReadBlock toks inner inside) (λ body r. r ≡ (Some body, (out-Block body).to)))
 
 pub else_form : {toks : List Tok} {left i inside : ℕ} → IsToken toks i (Word word.Else) inside → (r : Option Block × ℕ) → ReadElse toks left i r → ElseForm toks left inside r
-else_form {toks} {left} {i} {inside} t r h = ?
+else_form {toks} {left} {i} {inside} t r h = form r.0 r.1 h.is h.ends h.level
+  where
+    form : (last : Option Block) (j : ℕ) → IsElse toks i j last → At toks j (Word word.End) → block_if_there (option_map block_levels last) ≤ left → ElseForm toks left inside (last, j)
+    form None _ g.no_else ends level = let here = t.there in absurd cc
+    form (Some body) k (g.an_else u d) ends level = record { part = left - 1; first = omega arith;
+      rest = record { part = body; first = block_read (subst (λ p. IsBlock toks p k body) (same_end u t) d) (ap ends_block ends) (omega arith); rest = ap (λ p. (Some body, p)) (sym (block_to d)) } }
 
 abbrev pub ForStepForm : List Tok → ℕ → ℕ → (Option Expr × ℕ) → Type 0
 ForStepForm toks left from = Then (ReadExpr toks 1 left from) (λ e r. r ≡ (Some e, (out-Expr e).to))
 
 pub for_step_form : {toks : List Tok} {left i from : ℕ} → IsToken toks i (Sign sign.Comma) from → (r : Option Expr × ℕ) → ReadForStep toks left i r → ForStepForm toks left from r
-for_step_form {toks} {left} {i} {from} t r h = ?
+for_step_form {toks} {left} {i} {from} t r h = form r.0 r.1 h.is h.ends h.level
+  where
+    form : (step : Option Expr) (j : ℕ) → IsForStep toks i j step → At toks j (Word word.Do) → if_there (option_map expr_levels step) ≤ left → ForStepForm toks left from (step, j)
+    form None _ g.no_for_step ends level = let here = t.there in absurd cc
+    form (Some e) k (g.a_for_step u d) ends level = record { part = e;
+      first = expr_read (subst (λ p. IsExpr toks 1 p k e) (same_end u t) d) (token_closes ends refl refl refl) (omega arith); rest = ap (λ p. (Some e, p)) (sym (expr_to d)) }
 
 -- targets of an assignment
 
 pub variable_prefix : {toks : List Tok} {left i : ℕ} → (e : Expr) → ReadVariable toks left i e → ReadPrefix toks left i (record { shape = Variable; expr = e })
-variable_prefix {toks} {left} {i} e h = ?
+variable_prefix {toks} {left} {i} e h = record { is = h.is; ends = h.ends; level = h.level }
 
 pub targets_last : {toks : List Tok} {left i : ℕ} {one : Expr} → NotAt toks (out-Expr one).to (Sign sign.Comma) → (r : List Expr × ℕ) → ReadMoreTargets toks left i one r → r ≡ (one ∷ [], (out-Expr one).to)
-targets_last {toks} {left} {i} {one} other r h = ?
+targets_last {toks} {left} {i} {one} other r h = form r.0 r.1 h.targets.is h.begins
+  where
+    form : (es : List Expr) (j : ℕ) → AreTargets toks i j es → es ≡ one ∷ h.others → ◌≡◌ {A = List Expr × ℕ} (es, j) (one ∷ [], (out-Expr one).to)
+    form _ j (g.one_target {e = e} d) begins = let same : e ≡ one = cc in subst (λ x. ◌≡◌ {A = List Expr × ℕ} (e ∷ [], j) (x ∷ [], (out-Expr x).to)) same (ap (λ p. (e ∷ [], p)) (sym (variable_to d)))
+    form _ _ (g.more_targets {e = e} d u _) begins = let same : e ≡ one = cc in absurd (other (subst (λ x. At toks (out-Expr x).to (Sign sign.Comma)) same (subst (λ p. At toks p (Sign sign.Comma)) (sym (variable_to d)) u.there)))
 
 -- another target, and the rest from it on
 abbrev pub NextTargetForm : List Tok → ℕ → Expr → ℕ → (List Expr × ℕ) → Type 0
 NextTargetForm toks left one next = Then (ReadVariable toks left next) (λ two r. (rest : List Expr × ℕ) × ReadMoreTargets toks left next two rest × (r ≡ (one ∷ rest.0, rest.1)))
 
 pub targets_form : {toks : List Tok} {left i next : ℕ} {one : Expr} → IsToken toks (out-Expr one).to (Sign sign.Comma) next → (r : List Expr × ℕ) → ReadMoreTargets toks left i one r → NextTargetForm toks left one next r
-targets_form {toks} {left} {i} {next} {one} t r h = ?
+targets_form {toks} {left} {i} {next} {one} t r h = form r.1 r.0 h.targets.is h.begins h.targets.ends h.targets.level
+  where
+    -- the targets behind the `,`
+    others : (p l : ℕ) (es : List Expr) → p ≡ next → AreTargets toks p l es → At toks l (Sign sign.Assign) → deepest (map expr_levels es) ≤ left → NextTargetForm toks left one next (one ∷ es, l)
+    others p l _ at (g.one_target {e = e} d) ends level = subst (λ p. NextTargetForm toks left one p (one ∷ e ∷ [], l)) at
+      (record { part = e; first = variable_read d (ap token_begins_suffix ends) (omega arith); rest = ((e ∷ [], l), record { others = []; begins = refl; targets = record { is = g.one_target d; ends = ends; level = level } }, refl) })
+    others p l _ at (g.more_targets {e = e} {targets = es} d u rest) ends level = subst (λ p. NextTargetForm toks left one p (one ∷ e ∷ es, l)) at
+      (record { part = e; first = variable_read d (ap token_begins_suffix u.there) (omega arith); rest = ((e ∷ es, l), record { others = es; begins = refl; targets = record { is = g.more_targets d u rest; ends = ends; level = level } }, refl) })
+    form : (j : ℕ) (es : List Expr) → AreTargets toks i j es → es ≡ one ∷ h.others → At toks j (Sign sign.Assign) → deepest (map expr_levels es) ≤ left → NextTargetForm toks left one next (es, j)
+    form j _ (g.one_target {e = e} d) begins ends level = let same : e ≡ one = cc in let comma = subst (λ p. At toks p (Sign sign.Comma)) (ap (λ x. (out-Expr x).to) (sym same) ∙ variable_to d) t.there in absurd cc
+    form l _ (g.more_targets {e = e} {targets = es} d u rest) begins ends level = let same : e ≡ one = cc in
+      subst (λ x. NextTargetForm toks left one next (x ∷ es, l)) (sym same) (others _ l es (same_end (moved (ap (λ x. (out-Expr x).to) (sym same) ∙ variable_to d) u) t) rest ends (omega arith))
 
 -- statements
 
