@@ -252,5 +252,148 @@ StatForm toks left i next (Some (Word w)) s = WordForm toks left i next w s
 StatForm toks left i next (Some (Sign m)) s = SignForm toks left i next m s
 StatForm toks left i next _ s = ReadExprStat toks left i s
 
+-- behind a word or a sign
+word_stat : {toks : List Tok} {i j : ℕ} {w : Keyword} (left : ℕ) (s : Stat) → IsToken toks i (Word w) j → WordForm toks left i j w s → StatForm toks left i (i + 1) (slice_get toks i) s
+word_stat {toks} {i} {j} {w} left s t h = subst (λ o. StatForm toks left i (i + 1) o s) (sym t.there) (subst (λ p. WordForm toks left i p w s) t.next h)
+
+sign_stat : {toks : List Tok} {i j : ℕ} {m : Mark} (left : ℕ) (s : Stat) → IsToken toks i (Sign m) j → SignForm toks left i j m s → StatForm toks left i (i + 1) (slice_get toks i) s
+sign_stat {toks} {i} {j} {m} left s t h = subst (λ o. StatForm toks left i (i + 1) o s) (sym t.there) (subst (λ p. SignForm toks left i p m s) t.next h)
+
+-- a prefix expression begins with a name or a `(`
+abbrev BeginsPrefix : List Tok → ℕ → Type 0
+BeginsPrefix toks i = At toks i Name ⊎ At toks i (Sign sign.LeftParen)
+
+head_begins : {toks : List Tok} {i j : ℕ} {e : Expr} → IsHead toks i j e → BeginsPrefix toks i
+head_begins (g.name_head t) = inl t.there
+head_begins (g.paren_head (g.paren t _ _)) = inr t.there
+
+variable_begins : {toks : List Tok} {i j : ℕ} {e : Expr} → IsVariable toks i j e → BeginsPrefix toks i
+variable_begins (g.name_variable t) = inl t.there
+variable_begins (g.suffixed_variable d _) = head_begins d
+
+expr_stat : {toks : List Tok} {i : ℕ} (left : ℕ) (s : Stat) → BeginsPrefix toks i → ReadExprStat toks left i s → StatForm toks left i (i + 1) (slice_get toks i) s
+expr_stat {toks} {i} left s (inl t) h = subst (λ o. StatForm toks left i (i + 1) o s) (sym t) h
+expr_stat {toks} {i} left s (inr t) h = subst (λ o. StatForm toks left i (i + 1) o s) (sym t) h
+
+-- the assignment to targets, the first of which is this one
+assign_form : {toks : List Tok} {left i j k l : ℕ} {one : Expr} {others es : List Expr} (p : ℕ) → IsVariable toks i p one → begins_suffix toks p ≡ false → AreTargets toks i j (one ∷ others) → IsToken toks j (Sign sign.Assign) k
+    → AreExprs toks k l es → EndsStat toks l → stat_levels (statement i l (stat.Assign (one ∷ others) es)) ≤ left → StatForm toks left i (i + 1) (slice_get toks i) (statement i l (stat.Assign (one ∷ others) es))
+assign_form {toks} {left} {i} {j} {k} {l} {one} {others} {es} p first closed targets t values ends level = let levels = lv.assign_levels i l (one ∷ others) es in
+    expr_stat left (statement i l (stat.Assign (one ∷ others) es)) (variable_begins first) (record {
+      part = record { shape = Variable; expr = one };
+      first = variable_prefix one (variable_read first closed (omega arith));
+      rest = record {
+        part = (one ∷ others, j);
+        first = record { others = others; begins = refl; targets = record { is = targets; ends = t.there; level = omega arith } };
+        rest = record { part = k; first = t; rest = record { part = (es, l); first = record { is = values; ends = stat_ends_exprs ends; level = omega arith }; rest = refl } };
+      };
+    })
+
+-- names that are declared begin with a name
+declared_begins : {toks : List Tok} {i j : ℕ} {declared : List Declared} → AreDeclared toks i j declared → At toks i Name
+declared_begins (g.one_declared t _) = t.there
+declared_begins (g.more_declared t _ _ _) = t.there
+
+-- no `=` stands behind the first of several names, of which `in` stands behind the last
+names_assigned : {toks : List Tok} {i j k after from : ℕ} {names : List ℕ} → AreNames toks i j names → IsToken toks j (Word word.In) k → IsToken toks i Name after → IsToken toks after (Sign sign.Assign) from → ⊥
+names_assigned (g.one_name t) u n assign = let here = u.there in let mark = assign.there in let e = same_end t n in absurd cc
+names_assigned (g.more_names t comma _) u n assign = let here = comma.there in let mark = assign.there in let e = same_end t n in absurd cc
+
+-- no `.` stands behind the path of a function's name
+body_begins : {toks : List Tok} {i j : ℕ} {f : FuncBody} → IsFuncBody toks i j f → At toks i (Sign sign.LeftParen)
+body_begins (g.func_body t _ _ _ _) = t.there
+
+method_no_dot : {toks : List Tok} {i j : ℕ} {method : Option ℕ} → IsMethod toks i j method → At toks j (Sign sign.LeftParen) → NotAt toks i (Sign sign.Dot)
+method_no_dot g.no_method paren dot = absurd cc
+method_no_dot (g.a_method t _) paren dot = let colon = t.there in absurd cc
+
+for_form : {toks : List Tok} {left i j k l m n o p q r s : ℕ} {first limit : Expr} {step : Option Expr} {body : Block} → IsToken toks j Name k
+    → IsToken toks k (Sign sign.Assign) l → IsExpr toks 1 l m first → IsToken toks m (Sign sign.Comma) n → IsExpr toks 1 n o limit → IsForStep toks o p step
+    → IsToken toks p (Word word.Do) q → IsBlock toks q r body → IsToken toks r (Word word.End) s → stat_levels (statement i s (stat.For j first limit step body)) ≤ left → ReadCount toks left i j l (statement i s (stat.For j first limit step body))
+for_form {toks} {left} {i} {j} {k} {l} {m} {n} {o} {p} {q} {r} {s} {first} {limit} {step} {body} name assign a t b c u d v level = let levels = lv.for_levels i s j first limit step body in record {
+  part = first;
+  first = expr_read a (token_closes t.there refl refl refl) (omega arith);
+  rest = record { part = n; first = moved (expr_to a) t; rest = record {
+    part = limit;
+    first = expr_read b (step_closes c u) (omega arith);
+    rest = record {
+      part = (step, p);
+      first = subst (λ z. ReadForStep toks left z (step, p)) (sym (expr_to b)) (record { is = c; ends = u.there; level = omega arith });
+      rest = record { part = q; first = u; rest = record { part = (body, s); first = ended_read d v (omega arith); rest = refl } };
+    };
+  } };
+}
+  where
+    step_closes : {o p q : ℕ} {step : Option Expr} → IsForStep toks o p step → IsToken toks p (Word word.Do) q → EndsExpr toks 1 o
+    step_closes g.no_for_step u = token_closes u.there refl refl refl
+    step_closes (g.a_for_step t _) u = token_closes t.there refl refl refl
+
 pub stat_form : {toks : List Tok} {left i : ℕ} → (s : Stat) → ReadStat toks left i s → StatForm toks left i (i + 1) (slice_get toks i) s
-stat_form {toks} {left} {i} s h = ?
+stat_form {toks} {left} {i} s h = form (out-Stat s).to s h.is h.ends h.level
+  where
+    form : (j : ℕ) (s : Stat) → IsStat toks i j s → EndsStat toks j → stat_levels s ≤ left → StatForm toks left i (i + 1) (slice_get toks i) s
+    form j _ (g.empty_stat t) ends level = sign_stat left (statement i j stat.Empty) t refl
+    form k _ (g.local_stat {j = j} {declared = declared} t d) ends level = word_stat left (statement i k (stat.Local declared [])) t (record {
+      function = λ name u. let here = u.there in let begins = declared_begins d in absurd cc;
+      named = λ other. record {
+        part = (declared, k);
+        first = record { is = d; ends = record { comma = not_at toks k follows_stat ends refl; less = not_at toks k follows_stat ends refl }; level = omega arith };
+        rest = record { values = λ from u. absurd (not_at toks k follows_stat ends refl u.there); none = λ none. refl };
+      };
+    })
+    form o _ (g.local_values_stat {j = j} {k = k} {l = l} {declared = declared} {es = es} t d u values) ends level = word_stat left (statement i o (stat.Local declared es)) t (record {
+      function = λ name v. let here = v.there in let begins = declared_begins d in absurd cc;
+      named = λ other. record {
+        part = (declared, k);
+        first = record { is = d; ends = record { comma = λ comma. let here = u.there in absurd cc; less = λ less. let here = u.there in absurd cc }; level = omega arith };
+        rest = record {
+          values = λ from v. record { part = (es, o);
+            first = subst (λ p. ReadExprs toks left p (es, o)) (same_end u v) (record { is = values; ends = stat_ends_exprs ends; level = omega (arith, lv.local_levels i o declared es) }); rest = refl };
+          none = λ none. absurd (none u.there);
+        };
+      };
+    })
+    form l _ (g.assign_stat (g.one_target d) t values) ends level = assign_form _ d (ap token_begins_suffix t.there) (g.one_target d) t values ends level
+    form l _ (g.assign_stat (g.more_targets d u rest) t values) ends level = assign_form _ d (ap token_begins_suffix u.there) (g.more_targets d u rest) t values ends level
+    form j _ (g.call_stat {e = e} (g.suffixed_call head suffixes) closed) ends level = let d = g.suffixed_call head suffixes in let levels = lv.call_levels i j e in
+      expr_stat left (statement i j (stat.Call e)) (head_begins head) (record {
+        part = record { shape = Call; expr = e };
+        first = subst (λ p. Part (IsCall toks i p e) (begins_suffix toks p ≡ false) (expr_levels e) left) (sym (call_to d)) (record { is = d; ends = stat_ends_prefix toks j ends closed; level = omega arith });
+        rest = ap (λ p. statement i p (stat.Call e)) (sym (call_to d));
+      })
+    form l _ (g.do_stat {body = body} t d u) ends level = word_stat left (statement i l (stat.Do body)) t (record { part = (body, l); first = ended_read d u (omega (arith, lv.do_levels i l body)); rest = refl })
+    form p _ (g.while_stat {k = k} {l = l} {e = e} {body = body} t d u b v) ends level = let levels = lv.while_levels i p e body in word_stat left (statement i p (stat.While e body)) t (record {
+      part = e; first = expr_read d (token_closes u.there refl refl refl) (omega arith); rest = record { part = l; first = moved (expr_to d) u; rest = record { part = (body, p); first = ended_read b v (omega arith); rest = refl } } })
+    form o _ (g.repeat_stat {l = l} {body = body} {e = e} t b u d) ends level = let levels = lv.repeat_levels i o body e in word_stat left (statement i o (stat.Repeat body e)) t (record {
+      part = left - 1; first = omega arith; rest = record { part = body; first = block_read b (ap ends_block u.there) (omega arith); rest = record { part = l; first = moved (block_to b) u; rest = record {
+      part = e; first = expr_read d (stat_ends_expr ends) (omega arith); rest = ap (λ p. statement i p (stat.Repeat body e)) (sym (expr_to d)) } } } })
+    form o _ (g.if_stat {k = k} {l = l} {arms = arms} {last = last} t d e u) ends level = let levels = lv.if_levels i o arms last in word_stat left (statement i o (stat.If arms last)) t (record {
+      part = (arms, k); first = record { is = d; ends = else_ends_arms e u; level = omega arith }; rest = record {
+      part = (last, l); first = record { is = e; ends = u.there; level = omega arith }; rest = record { part = o; first = u; rest = refl } } })
+      where
+        else_ends_arms : {k l o : ℕ} {last : Option Block} → IsElse toks k l last → IsToken toks l (Word word.End) o → EndsArms toks k
+        else_ends_arms g.no_else u = ap ends_arms u.there
+        else_ends_arms (g.an_else t _) u = ap ends_arms t.there
+    form s _ (g.for_stat {j = j} {first = first} {limit = limit} {step = step} {body = body} t name assign a comma b c u d v) ends level = word_stat left (statement i s (stat.For j first limit step body)) t (record {
+      count = λ after from n z. subst (λ p. ReadCount toks left i j p (statement i s (stat.For j first limit step body))) (second_end name assign n z) (for_form name assign a comma b c u d v level);
+      names = λ none. absurd (none _ _ name assign);
+    })
+    form r _ (g.for_in_stat {j = j} {k = k} {l = l} {o = o} {p = p} {names = names} {es = es} {body = body} t d u values v b w) ends level = let levels = lv.for_in_levels i r names es body in word_stat left (statement i r (stat.ForIn names es body)) t (record {
+      count = λ after from n z. absurd (names_assigned d u n z);
+      names = λ none. record { part = (names, k); first = record { is = d; ends = λ comma. let here = u.there in absurd cc; level = omega arith }; rest = record { part = l; first = u; rest = record {
+        part = (es, o); first = record { is = values; ends = record { expr = token_closes v.there refl refl refl; comma = λ comma. let here = v.there in absurd cc }; level = omega arith };
+        rest = record { part = p; first = v; rest = record { part = (body, r); first = ended_read b w (omega arith); rest = refl } } } } };
+    })
+    form o _ (g.function_stat {j = j} {k = k} {l = l} {path = path} {method = method} {f = f} t d m b) ends level = let levels = lv.function_stat_levels i o path method f in word_stat left (statement i o (stat.Function path method f)) t (record {
+      part = left - 1; first = omega arith; rest = record {
+      part = (path, k); first = record { is = d; ends = method_no_dot m (body_begins b); level = omega arith }; rest = record {
+      part = (method, l); first = record { is = m; ends = body_begins b; level = omega arith }; rest = record {
+      part = f; first = body_read b (omega arith); rest = ap (λ p. statement i p (stat.Function path method f)) (sym (body_to b)) } } } })
+    form o _ (g.local_function_stat {j = j} {k = k} {l = l} {f = f} t u n b) ends level = let levels = lv.local_function_levels i o k f in word_stat left (statement i o (stat.LocalFunction k f)) t (record {
+      function = λ name v. subst (λ p. ReadLocalFunction toks left i p (statement i o (stat.LocalFunction k f))) (same_end u v)
+        (record { part = left - 1; first = omega arith; rest = record { part = l; first = n; rest = record { part = f; first = body_read b (omega arith); rest = ap (λ p. statement i p (stat.LocalFunction k f)) (sym (body_to b)) } } });
+      named = λ other. absurd (other u.there);
+    })
+    form l _ (g.label_stat {j = j} {k = k} t n u) ends level = sign_stat left (statement i l (stat.Label j)) t (record { part = k; first = n; rest = record { part = l; first = u; rest = refl } })
+    form k _ (g.goto_stat {j = j} t n) ends level = word_stat left (statement i k (stat.Goto j)) t (record { part = k; first = n; rest = refl })
+    form j _ (g.break_stat t) ends level = word_stat left (statement i j stat.Break) t refl
