@@ -1,14 +1,14 @@
 -- Lists of names, in the form in which they are read.
-use Rattle.std.proofs.Common.{◌≡◌, ℕ, ◌+◌, Bool, true, false, Option, Some, None, List, [], ◌∷◌, refl, sym, ap, ◌∙◌, subst, arith}
+use Rattle.std.proofs.Common.{◌≡◌, ℕ, ◌+◌, Bool, true, false, Option, Some, None, List, [], ◌∷◌, refl, ap, subst, arith}
 use Rattle.luf_lex.specs.declared.token.Tok.{Tok}
-use Rattle.luf_lex.specs.declared.token.Tok.TheVariants.{Name, Word, Sign}
+use Rattle.luf_lex.specs.declared.token.Tok.TheVariants.{Name, Sign}
 use Rattle.luf_lex.specs.declared.token.Sign.TheVariants as sign
 use Rattle.luf_tree.specs.declared.tree.Declared.{Declared}
 use Rattle.luf_tree.specs.Grammar as g
-use Rattle.luf_tree.specs.Grammar.{At, IsToken, AreNames, AreParams, IsAttribute, AreDeclared, IsPath, IsMethod}
+use Rattle.luf_tree.specs.Grammar.{At, IsToken, AreNames, AreParams, IsAttribute, AreDeclared, IsPath}
 use Rattle.luf_parse.specs.Exact.{Then}
 use Rattle.luf_parse.specs.Follow.{NotAt}
-use Rattle.luf_parse.specs.Parts.{Part, ReadNames, ReadPath, ReadMethod, ReadParams, ReadAttribute, ReadDeclared, EndsDeclared}
+use Rattle.luf_parse.specs.Parts.{ReadNames, ReadPath, ReadParams, ReadAttribute, ReadDeclared, EndsDeclared}
 use Rattle.luf_parse.proofs.Exactness.{ListRest}
 
 -- the same token stands at the same place
@@ -38,10 +38,14 @@ names_form {toks} {i} r h = form r.0 r.1 h.is h.ends
   where
     form : (names : List ℕ) (j : ℕ) → AreNames toks i j names → NotAt toks j (Sign sign.Comma) → NamesForm toks i (names, j)
     form _ j (g.one_name t) ends = record { part = j; first = t; rest = record { more = λ next u. absurd (ends u.there); last = λ none. refl } }
-    form _ l (g.more_names {j = j} {names = names} t u d) ends = record { part = j; first = t; rest = record {
-      more = λ next v. ((names, l), subst (λ p. ReadNames toks p (names, l)) (same_end u v) (record { is = d; ends = ends; level = omega arith }), refl);
-      last = λ none. absurd (none _ u);
-    } }
+    form _ l (g.more_names {j = j} {names = names} t u d) ends = record {
+      part = j;
+      first = t;
+      rest = record {
+        more = λ next v. ((names, l), subst (λ p. ReadNames toks p (names, l)) (same_end u v) (record { is = d; ends = ends; level = omega arith }), refl);
+        last = λ none. absurd (none _ u);
+      };
+    }
 
 abbrev pub PathForm : List Tok → ℕ → (List ℕ × ℕ) → Type 0
 PathForm toks i = Then (IsToken toks i Name) (λ j. ListRest (IsToken toks j (Sign sign.Dot)) (λ next. ReadPath toks next) i j)
@@ -51,10 +55,14 @@ path_form {toks} {i} r h = form r.0 r.1 h.is h.ends
   where
     form : (path : List ℕ) (j : ℕ) → IsPath toks i j path → NotAt toks j (Sign sign.Dot) → PathForm toks i (path, j)
     form _ j (g.path_end t) ends = record { part = j; first = t; rest = record { more = λ next u. absurd (ends u.there); last = λ none. refl } }
-    form _ l (g.path_more {j = j} {path = path} t u d) ends = record { part = j; first = t; rest = record {
-      more = λ next v. ((path, l), subst (λ p. ReadPath toks p (path, l)) (same_end u v) (record { is = d; ends = ends; level = omega arith }), refl);
-      last = λ none. absurd (none _ u);
-    } }
+    form _ l (g.path_more {j = j} {path = path} t u d) ends = record {
+      part = j;
+      first = t;
+      rest = record {
+        more = λ next v. ((path, l), subst (λ p. ReadPath toks p (path, l)) (same_end u v) (record { is = d; ends = ends; level = omega arith }), refl);
+        last = λ none. absurd (none _ u);
+      };
+    }
 
 -- a name that is declared, and its attribute
 abbrev pub ReadOne : List Tok → ℕ → (Option ℕ × ℕ) → Type 0
@@ -111,6 +119,7 @@ params_more {toks} {i} {to} {next} n t other r h = form r.0 r.1.0 r.1.1 h.params
   where
     named : (params : List ℕ) (vararg : Bool) (j k : ℕ) → j ≡ next → At toks j Name → AreParams toks j k params vararg → At toks k (Sign sign.RightParen) → MoreForm toks i next (i ∷ params, (vararg, k))
     named params vararg j k e name d close = ((params, (vararg, k)), params_named (subst (λ p. At toks p Name) e name) (params, (vararg, k)) (record { is = subst (λ p. AreParams toks p k params vararg) e d; ends = close; level = omega arith }), refl)
+
     form : (params : List ℕ) (vararg : Bool) (j : ℕ) → AreParams toks i j params vararg → At toks j (Sign sign.RightParen) → MoreForm toks i next (params, (vararg, j))
     form _ _ _ g.no_params close = let name = n.there in absurd cc
     form _ _ _ (g.dots_alone u) close = let name = n.there in let dots = u.there in absurd cc
@@ -140,4 +149,3 @@ params_dots {toks} {i} {to} {next} {end} n t dots r h = form r.0 r.1.0 r.1.1 h.p
     form _ _ j (g.names_alone (g.more_names u v d)) close = let name = names_begin d in let mark = dots.there in let e = second_end u v n t in absurd cc
     form _ _ j (g.names_and_dots (g.one_name u) v w) close = let e = second_end u v n t in let a = w.next in let b = dots.next in ap (λ p. read (i ∷ []) true p) (omega arith)
     form _ _ j (g.names_and_dots (g.more_names u v d) w x) close = let name = names_begin d in let mark = dots.there in let e = second_end u v n t in absurd cc
-

@@ -1,6 +1,6 @@
 -- A part that is derived up to a place, behind which it does not go on, is one that is looked for; and what may follow
 -- a statement.
-use Rattle.std.proofs.Common.{◌≡◌, ℕ, ◌+◌, ◌-◌, ◌≤◌, Bool, true, false, Option, Some, None, List, [], ◌∷◌, refl, sym, ap, ◌∙◌, subst, arith}
+use Rattle.std.proofs.Common.{◌≡◌, ℕ, ◌+◌, ◌-◌, ◌≤◌, true, false, Option, Some, None, List, refl, sym, ap, subst, arith}
 use Rattle.std.specs.Prelude.{slice_get}
 use Rattle.luf_lex.specs.declared.token.Tok.{Tok}
 use Rattle.luf_lex.specs.declared.token.Tok.TheVariants as tok
@@ -8,14 +8,14 @@ use Rattle.luf_lex.specs.declared.token.Word.{Word}
 use Rattle.luf_lex.specs.declared.token.Word.TheVariants as word
 use Rattle.luf_lex.specs.declared.token.Sign.{Sign}
 use Rattle.luf_lex.specs.declared.token.Sign.TheVariants as sign
-use Rattle.luf_tree.specs.declared.tree.Block.{Block, out-Block}
-use Rattle.luf_tree.specs.declared.tree.Stat.{Stat, out-Stat}
-use Rattle.luf_tree.specs.declared.tree.FuncBody.{FuncBody, out-FuncBody}
-use Rattle.luf_tree.specs.declared.tree.Expr.{Expr, out-Expr}
+use Rattle.luf_tree.specs.declared.tree.Block.{Block}
+use Rattle.luf_tree.specs.declared.tree.Stat.{Stat}
+use Rattle.luf_tree.specs.declared.tree.FuncBody.{FuncBody}
+use Rattle.luf_tree.specs.declared.tree.Expr.{Expr}
 use Rattle.luf_tree.specs.First.{word_starts_stat, sign_starts_stat, starts_stat, word_starts_expr, sign_starts_expr, starts_expr}
 use Rattle.luf_tree.specs.Level.{expr_levels, stat_levels, block_levels, body_levels}
 use Rattle.luf_tree.specs.Grammar as g
-use Rattle.luf_tree.specs.Grammar.{At, IsToken, IsExpr, IsVariable, IsFuncBody, IsBlock, AreStats, IsReturn, IsStat, AreExprs, IsSemicolon}
+use Rattle.luf_tree.specs.Grammar.{IsToken, IsExpr, IsVariable, IsFuncBody, IsBlock, AreStats, IsReturn, IsStat, AreExprs, IsSemicolon}
 use Rattle.luf_tree.proofs.TokenLaws.{expr_starts, stat_starts}
 use Rattle.luf_parse.specs.Follow.{NotAt, EndsExpr, EndsExprs, ends_block, word_stops_stats, stops_stats, ends_return, EndsBlock, word_follows_stat, sign_follows_stat, follows_stat, EndsStat, sign_continues, continues_prefix}
 use Rattle.luf_parse.specs.Parts.{Part, ReadExpr, ReadFuncBody, ReadBlock, ReadEnded, ReadStat, ReadReturn, ReadVariable}
