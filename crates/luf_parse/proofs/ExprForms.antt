@@ -39,6 +39,8 @@ use Rattle.luf_parse.specs.declared.descent.PrefixExpr.{PrefixExpr}
 use Rattle.luf_parse.specs.declared.descent.Shape.{Shape}
 use Rattle.luf_parse.specs.declared.descent.Shape.TheVariants.{Variable, Call, Paren}
 use Rattle.luf_parse.proofs.Exactness.{ListRest}
+use Rattle.luf_parse.proofs.Ends.{moved, paren_to, head_to, variable_to, call_to, prefix_to, shaped_to, simple_to, operand_to, expr_to, args_to, body_to}
+use Rattle.luf_parse.proofs.Following.{not_at, not_at_other, is_power, closes_expr, token_closes, stat_ends_expr, field_ends_expr, binary_ends_operand, suffix_continues, closed_suffix}
 
 -- operands
 

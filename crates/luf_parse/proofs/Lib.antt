@@ -1,5 +1,8 @@
 pub mod Joining
 pub mod Exactness
+pub mod Ends
+pub mod Following
+pub mod Reading
 pub mod NameForms
 pub mod ExprForms
 pub mod StatForms
