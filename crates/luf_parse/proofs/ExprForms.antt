@@ -1,6 +1,6 @@
 -- Each part of an expression that is looked for at a place, in the form in which it is read: from the token that stands
 -- there, one part after another.
-use Rattle.std.proofs.Common.{◌≡◌, ℕ, suc, ◌+◌, ◌<◌, ◌≤◌, ◌⊎◌, inl, inr, Bool, true, false, Option, Some, None, List, [], ◌∷◌, length, map, max, refl, sym, ap, ◌∙◌, subst, arith}
+use Rattle.std.proofs.Common.{◌≡◌, ℕ, zero, suc, ◌+◌, ◌<◌, ◌≤◌, ◌⊎◌, inl, inr, Bool, true, false, Option, Some, None, List, [], ◌∷◌, length, map, max, refl, sym, ap, ◌∙◌, subst, arith}
 use Rattle.std.specs.Prelude.{slice_get}
 use Rattle.std.specs.Option.{option_map}
 use Rattle.luf_lex.specs.declared.token.Tok.{Tok}
@@ -33,46 +33,193 @@ use Rattle.luf_parse.specs.Exact.{Alone, Then, Enters}
 use Rattle.luf_parse.specs.Follow.{NotAt, NotAssigned, NotString, IsSeparator, continues_prefix, EndsOperand, EndsExpr, EndsExprs, ends_block, stops_stats, ends_return, EndsBlock, EndsStat, EndsArms, EndsField}
 use Rattle.luf_parse.specs.Parts as parts
 use Rattle.luf_parse.specs.Parts.{Part, ReadExpr, ReadSteps, ReadChain, ReadOperand, ReadSimple, ReadUnary, ReadExponent, ReadPowerRest, ReadPower, ReadFuncBody, ReadFunction, ReadTable, ReadTableExpr, ReadFields, ReadField, ReadKeyed, ReadExprs, ReadPrefix, ReadHead, ReadParen, ReadSuffixes, ReadSuffix, ReadArgs, list_args, ReadListRest, ReadListArgs, ReadLoneArg}
-use Rattle.luf_parse.specs.Reads.{begins_suffix, level_at}
+use Rattle.luf_parse.specs.Reads.{begins_suffix, token_begins_suffix, level_at, level_of}
 use Rattle.luf_parse.specs.Shapes.{IsShaped, suffixed_shape, lone_args, leaf_kind}
 use Rattle.luf_parse.specs.declared.descent.PrefixExpr.{PrefixExpr}
 use Rattle.luf_parse.specs.declared.descent.Shape.{Shape}
 use Rattle.luf_parse.specs.declared.descent.Shape.TheVariants.{Variable, Call, Paren}
 use Rattle.luf_parse.proofs.Exactness.{ListRest}
+use Rattle.std.proofs.lemmas.Option.{same_Some}
+use Rattle.luf_tree.proofs.TokenLaws.{expr_starts}
+use Rattle.luf_tree.specs.First.{starts_expr}
+use Rattle.luf_parse.proofs.NameForms.{same_end}
+use Rattle.luf_parse.proofs.Begins.{expr_inside, table_begins, paren_begins, prefix_begins, string_begins, unary_at, simple_begins, begins_args, args_begin, suffixes_begin, steps_begin, exprs_start, field_begins, expr_name_end}
 use Rattle.luf_parse.proofs.Ends.{moved, paren_to, head_to, variable_to, call_to, prefix_to, shaped_to, simple_to, operand_to, expr_to, args_to, body_to}
 use Rattle.luf_parse.proofs.Following.{not_at, not_at_other, is_power, closes_expr, token_closes, stat_ends_expr, field_ends_expr, binary_ends_operand, suffix_continues, closed_suffix}
+
+-- A part at the end that it names.
+
+read_expr : {toks : List Tok} {n left i j : ℕ} {e : Expr} → IsExpr toks n i j e → EndsExpr toks n j → expr_levels e ≤ left → ReadExpr toks n left i e
+read_expr {toks} {n} {left} {i} {j} {e} d ends level =
+    record { is = subst (λ (p : ℕ). IsExpr toks n i p e) (sym (expr_to d)) d; ends = subst (λ (p : ℕ). EndsExpr toks n p) (sym (expr_to d)) ends; level = level }
+
+read_operand : {toks : List Tok} {left i j : ℕ} {e : Expr} → IsOperand toks i j e → EndsOperand toks j → expr_levels e ≤ left → ReadOperand toks left i e
+read_operand {toks} {left} {i} {j} {e} d ends level =
+    record { is = subst (λ (p : ℕ). IsOperand toks i p e) (sym (operand_to d)) d; ends = subst (λ (p : ℕ). EndsOperand toks p) (sym (operand_to d)) ends; level = level }
+
+read_simple : {toks : List Tok} {left i j : ℕ} {e : Expr} → IsSimple toks i j e → continues_prefix (slice_get toks j) ≡ false → expr_levels e ≤ left → ReadSimple toks left i e
+read_simple {toks} {left} {i} {j} {e} d ends level =
+    record { is = subst (λ (p : ℕ). IsSimple toks i p e) (sym (simple_to d)) d; ends = subst (λ (p : ℕ). continues_prefix (slice_get toks p) ≡ false) (sym (simple_to d)) ends; level = level }
+
+read_args : {toks : List Tok} {left i j : ℕ} {a : Args} → IsArgs toks i j a → args_levels a ≤ left → ReadArgs toks left i a
+read_args {toks} {left} {i} {j} {a} d level = record { is = subst (λ (p : ℕ). IsArgs toks i p a) (sym (args_to d)) d; ends = tt; level = level }
+
+read_body : {toks : List Tok} {left i j : ℕ} {f : FuncBody} → IsFuncBody toks i j f → body_levels f ≤ left → ReadFuncBody toks left i f
+read_body {toks} {left} {i} {j} {f} d level = record { is = subst (λ (p : ℕ). IsFuncBody toks i p f) (sym (body_to d)) d; ends = tt; level = level }
+
+-- what a part needs that is one level deeper
+enters : (left k : ℕ) → k + 1 ≤ left → (inner : ℕ) × (left ≡ inner + 1) × (k ≤ inner)
+enters zero k h = absurd (omega arith)
+enters (suc n) k h = (n, omega arith, omega arith)
 
 -- operands
 
 pub operand_inside : {toks : List Tok} {left i : ℕ} → length toks ≤ i → (e : Expr) → ReadOperand toks left i e → ⊥
-operand_inside {toks} {left} {i} end e h = ?
+operand_inside {toks} {left} {i} end e h = expr_inside end (g.operand_expr {n = 1} h.is)
 
 pub unary_form : {toks : List Tok} {left i next : ℕ} {tok : Tok} → IsToken toks i tok next → is_unary tok ≡ true → (e : Expr) → ReadOperand toks left i e → ReadUnary toks left i next e
-unary_form {toks} {left} {i} {next} {tok} t u e h = ?
+unary_form {toks} {left} {i} {next} {tok} t u e h = form _ e h.is h.ends h.level
+  where
+    form : (j : ℕ) (e : Expr) → IsOperand toks i j e → EndsOperand toks j → expr_levels e ≤ left → ReadUnary toks left i next e
+    form j _ (g.unary_operand {k = k} {e = operand} t2 _ d) ends level =
+        let enter = enters left (expr_levels operand) (omega (arith, lv.unary_levels i j operand)) in
+        subst (λ (p : ℕ). ReadUnary toks left i p (expression i j (expr.Unary operand))) (same_end t2 t)
+        (record { part = enter.0; first = enter.1; rest = record { part = operand; first = read_operand d ends enter.2; rest = ap (λ (p : ℕ). expression i p (expr.Unary operand)) (sym (operand_to d)) } })
+    form j _ (g.power_operand d _ _) ends level = let a = simple_begins d in let b = ap unary_at t.there in absurd cc
+    form j _ (g.simple_operand d) ends level = let a = simple_begins d in let b = ap unary_at t.there in absurd cc
 
 pub power_form : {toks : List Tok} {left i next : ℕ} {tok : Tok} → IsToken toks i tok next → is_unary tok ≡ false → (e : Expr) → ReadOperand toks left i e → ReadPower toks left i e
-power_form {toks} {left} {i} {next} {tok} t u e h = ?
+power_form {toks} {left} {i} {next} {tok} t u e h = form _ e h.is h.ends h.level
+  where
+    form : (j : ℕ) (e : Expr) → IsOperand toks i j e → EndsOperand toks j → expr_levels e ≤ left → ReadPower toks left i e
+    form j _ (g.unary_operand t2 u2 d) ends level = let a = ap unary_at t.there in let b = ap unary_at t2.there in absurd cc
+    form j _ (g.power_operand {j = k} {base = base} {exponent = exponent} d c x) ends level =
+        record { part = base; first = read_simple d (ap continues_prefix c.there) (omega (arith, lv.power_levels i j base k exponent)); rest = record
+        { power = λ next n. subst (λ (p : ℕ). ReadExponent toks left i base p (expression i j (expr.Power base k exponent))) (same_end (moved (simple_to d) c) n)
+            (let enter = enters left (expr_levels exponent) (omega (arith, lv.power_levels i j base k exponent)) in
+            record { part = enter.0; first = enter.1; rest = record { part = exponent; first = read_operand x ends enter.2; rest =
+                ap (λ (p : ℕ). expression i p (expr.Power base k exponent)) (sym (operand_to x)) ∙ ap (λ (p : ℕ). expression i (out-Expr exponent).to (expr.Power base p exponent)) (sym (simple_to d)) } })
+        ; none = λ other. absurd (other (moved (simple_to d) c).there) } }
+    form j e (g.simple_operand d) ends level =
+        record { part = e; first = read_simple d ends.suffix level; rest = record { power = λ next c. absurd (ends.power (moved (sym (simple_to d)) c).there); none = λ other. refl } }
 
 -- simple expressions
 
+-- a name or a `(`
+abbrev begins_prefix : Option Tok → Bool
+begins_prefix (Some Name) = true
+begins_prefix (Some (Sign sign.LeftParen)) = true
+begins_prefix _ = false
+
+abbrev is_string : Option Tok → Bool
+is_string (Some Short) = true
+is_string (Some Long) = true
+is_string _ = false
+
 pub simple_inside : {toks : List Tok} {left i : ℕ} → length toks ≤ i → (e : Expr) → ReadSimple toks left i e → ⊥
-simple_inside {toks} {left} {i} end e h = ?
+simple_inside {toks} {left} {i} end e h = expr_inside end (g.operand_expr {n = 1} (g.simple_operand h.is))
 
 pub function_form : {toks : List Tok} {left i next : ℕ} → IsToken toks i (Word word.Function) next → (e : Expr) → ReadSimple toks left i e → ReadFunction toks left i next e
-function_form {toks} {left} {i} {next} t e h = ?
+function_form {toks} {left} {i} {next} t e h = form _ e h.is h.level
+  where
+    form : (j : ℕ) (e : Expr) → IsSimple toks i j e → expr_levels e ≤ left → ReadFunction toks left i next e
+    form j _ (g.function_simple {f = f} t2 d) level =
+        let enter = enters left (body_levels f) (omega (arith, lv.function_levels i j f)) in
+        subst (λ (p : ℕ). ReadFunction toks left i p (expression i j (expr.Function f))) (same_end t2 t)
+        (record { part = enter.0; first = enter.1; rest = record { part = f; first = read_body d enter.2; rest = ap (λ (p : ℕ). expression i p (expr.Function f)) (sym (body_to d)) } })
+    form j _ (g.nil_simple t2) level = let a = t.there in let b = t2.there in absurd cc
+    form j _ (g.true_simple t2) level = let a = t.there in let b = t2.there in absurd cc
+    form j _ (g.false_simple t2) level = let a = t.there in let b = t2.there in absurd cc
+    form j _ (g.number_simple t2) level = let a = t.there in let b = t2.there in absurd cc
+    form j _ (g.string_simple d) level = absurd (not_at toks i begins_args (string_begins begins_args refl refl d) refl t.there)
+    form j _ (g.vararg_simple t2) level = let a = t.there in let b = t2.there in absurd cc
+    form j _ (g.table_simple d) level = let a = t.there in let b = table_begins d in absurd cc
+    form j _ (g.prefix_simple d _) level = absurd (not_at toks i begins_prefix (prefix_begins begins_prefix refl refl d) refl t.there)
 
 pub table_expr_form : {toks : List Tok} {left i next : ℕ} → IsToken toks i (Sign sign.LeftBrace) next → (e : Expr) → ReadSimple toks left i e → ReadTableExpr toks left i e
-table_expr_form {toks} {left} {i} {next} t e h = ?
+table_expr_form {toks} {left} {i} {next} t e h = form _ e h.is h.level
+  where
+    form : (j : ℕ) (e : Expr) → IsSimple toks i j e → expr_levels e ≤ left → ReadTableExpr toks left i e
+    form j _ (g.table_simple {fields = fields} d) level = record { part = (fields, j); first = record { is = d; ends = tt; level = omega (arith, lv.table_levels i j fields) }; rest = refl }
+    form j _ (g.function_simple t2 d) level = let a = t.there in let b = t2.there in absurd cc
+    form j _ (g.nil_simple t2) level = let a = t.there in let b = t2.there in absurd cc
+    form j _ (g.true_simple t2) level = let a = t.there in let b = t2.there in absurd cc
+    form j _ (g.false_simple t2) level = let a = t.there in let b = t2.there in absurd cc
+    form j _ (g.number_simple t2) level = let a = t.there in let b = t2.there in absurd cc
+    form j _ (g.string_simple d) level = absurd (not_at toks i is_string (string_begins is_string refl refl d) refl t.there)
+    form j _ (g.vararg_simple t2) level = let a = t.there in let b = t2.there in absurd cc
+    form j _ (g.prefix_simple d _) level = absurd (not_at toks i begins_prefix (prefix_begins begins_prefix refl refl d) refl t.there)
+
+abbrev leaf_at : Option Tok → Option ExprKind
+leaf_at None = None
+leaf_at (Some t) = leaf_kind t
+
+abbrev is_some_kind : Option ExprKind → Bool
+is_some_kind None = false
+is_some_kind (Some _) = true
+
+abbrev leaf_test : Option Tok → Bool
+leaf_test None = false
+leaf_test (Some t) = is_some_kind (leaf_kind t)
+
+-- two leaves at one place
+leaf : {toks : List Tok} {i next j : ℕ} {tok u : Tok} {kind k : ExprKind} → IsToken toks i tok next → leaf_kind tok ≡ Some kind → IsToken toks i u j → leaf_kind u ≡ Some k → expression i j k ≡ expression i next kind
+leaf {toks} {i} {next} {j} {tok} {u} {kind} {k} t known t2 known2 =
+    ap (λ (p : ℕ). expression i p k) (same_end t2 t) ∙ ap (λ (z : ExprKind). expression i next z) (same_Some k kind (sym known2 ∙ sym (ap leaf_at t2.there) ∙ ap leaf_at t.there ∙ known))
+
+-- no leaf begins another part
+no_leaf : (toks : List Tok) (i : ℕ) {u tok : Tok} {kind : ExprKind} {A : Type 0} → At toks i u → leaf_kind u ≡ None → At toks i tok → leaf_kind tok ≡ Some kind → A
+no_leaf toks i u none t some = let a = ap leaf_at u in let b = ap leaf_at t in absurd cc
 
 pub leaf_only : {toks : List Tok} {left i next : ℕ} {tok : Tok} {kind : ExprKind} → IsToken toks i tok next → leaf_kind tok ≡ Some kind → (e : Expr) → ReadSimple toks left i e → e ≡ expression i next kind
-leaf_only {toks} {left} {i} {next} {tok} {kind} t k e h = ?
+leaf_only {toks} {left} {i} {next} {tok} {kind} t k e h = form _ e h.is
+  where
+    form : (j : ℕ) (e : Expr) → IsSimple toks i j e → e ≡ expression i next kind
+    form j _ (g.nil_simple t2) = leaf t k t2 refl
+    form j _ (g.true_simple t2) = leaf t k t2 refl
+    form j _ (g.false_simple t2) = leaf t k t2 refl
+    form j _ (g.number_simple t2) = leaf t k t2 refl
+    form j _ (g.string_simple (inl t2)) = leaf t k t2 refl
+    form j _ (g.string_simple (inr t2)) = leaf t k t2 refl
+    form j _ (g.vararg_simple t2) = leaf t k t2 refl
+    form j _ (g.function_simple t2 d) = no_leaf toks i t2.there refl t.there k
+    form j _ (g.table_simple d) = no_leaf toks i (table_begins d) refl t.there k
+    form j e (g.prefix_simple d _) = let a = prefix_begins leaf_test refl refl d in let b = ap leaf_test t.there in let c = ap is_some_kind k in absurd cc
 
 abbrev pub PrefixedForm : List Tok → ℕ → ℕ → Expr → Type 0
 PrefixedForm toks left i = Then (ReadPrefix toks left i) (λ p e. e ≡ p.expr)
 
 pub prefixed_form : {toks : List Tok} {left i next : ℕ} {tok : Tok} → IsToken toks i tok next → leaf_kind tok ≡ None → (tok ≡ Word word.Function → ⊥) → (tok ≡ Sign sign.LeftBrace → ⊥)
     → (e : Expr) → ReadSimple toks left i e → PrefixedForm toks left i e
-prefixed_form {toks} {left} {i} {next} {tok} t k f b e h = ?
+prefixed_form {toks} {left} {i} {next} {tok} t k f b e h = form _ e h.is h.ends h.level
+  where
+    other : {u : Tok} {j : ℕ} {kind : ExprKind} {A : Type 0} → IsToken toks i u j → leaf_kind u ≡ Some kind → A
+    other t2 some = no_leaf toks i t.there k t2.there some
+
+    same : {u : Tok} → At toks i u → tok ≡ u
+    same {u} there = same_Some tok u (sym t.there ∙ there)
+
+    read : (j : ℕ) (e : Expr) (shape : Shape) → IsShaped toks i j shape e → j ≡ (out-Expr e).to → begins_suffix toks j ≡ false → expr_levels e ≤ left → PrefixedForm toks left i e
+    read j e shape d to ends level =
+        record { part = record { shape = shape; expr = e }; first = record { is = subst (λ (p : ℕ). IsShaped toks i p shape e) to d; ends = subst (λ (p : ℕ). begins_suffix toks p ≡ false) to ends; level = level }; rest = refl }
+
+    prefixed : (j : ℕ) (e : Expr) → IsPrefix toks i j e → begins_suffix toks j ≡ false → expr_levels e ≤ left → PrefixedForm toks left i e
+    prefixed j e (g.variable_prefix d) ends level = read j e Variable d (sym (variable_to d)) ends level
+    prefixed j e (g.call_prefix d) ends level = read j e Call d (sym (call_to d)) ends level
+    prefixed j e (g.paren_prefix d) ends level = read j e Paren d (sym (paren_to d)) ends level
+
+    form : (j : ℕ) (e : Expr) → IsSimple toks i j e → continues_prefix (slice_get toks (out-Expr e).to) ≡ false → expr_levels e ≤ left → PrefixedForm toks left i e
+    form j _ (g.nil_simple t2) ends level = other t2 refl
+    form j _ (g.true_simple t2) ends level = other t2 refl
+    form j _ (g.false_simple t2) ends level = other t2 refl
+    form j _ (g.number_simple t2) ends level = other t2 refl
+    form j _ (g.string_simple (inl t2)) ends level = other t2 refl
+    form j _ (g.string_simple (inr t2)) ends level = other t2 refl
+    form j _ (g.vararg_simple t2) ends level = other t2 refl
+    form j _ (g.function_simple t2 d) ends level = absurd (f (same t2.there))
+    form j _ (g.table_simple d) ends level = absurd (b (same (table_begins d)))
+    form j e (g.prefix_simple d closed) ends level =
+        prefixed j e d (closed_suffix toks j (subst (λ (p : ℕ). continues_prefix (slice_get toks p) ≡ false) (prefix_to d) ends) closed) level
 
 -- tables
 

@@ -2,6 +2,7 @@ pub mod Joining
 pub mod Exactness
 pub mod Ends
 pub mod Following
+pub mod Begins
 pub mod NameForms
 pub mod ExprForms
 pub mod StatForms
