@@ -1,9 +1,12 @@
 use Rattle.std.proofs.Common.{Bool, ◌≡◌, ◌+◌, ◌-◌, ◌*◌, ◌≤◌, length, map}
 use Rattle.luf_lex.specs.Tokens.{toks_of}
-use Rattle.luf_tree.specs.declared.tree.Expr.{out-Expr}
+use Rattle.luf_tree.specs.declared.tree.Expr.{Expr, out-Expr}
 use Rattle.luf_tree.specs.Level.{deepest, expr_levels, field_levels, step_levels, suffix_levels, stat_levels, arm_levels}
 use Rattle.luf_tree.specs.Grammar.{IsExpr, AreSteps, AreFields, AreExprs, AreSuffixes, AreStats, AreArms, AreTargets, IsVariable}
 use Rattle.luf_parse.specs.Reads.{Found, level_at}
+use Rattle.luf_parse.specs.Parts.{ReadExpr, ReadExprs, ReadFields, ReadArms, ReadStats, ReadMoreTargets, ReadSteps}
+use Rattle.luf_parse.proofs.Exactness.{Ahead}
+use Rattle.luf_parse.proofs.ExprForms.{SuffixesRead, Grown}
 use Rattle.luf_parse.proofs.Joining.{Joins}
 use Rattle.luf_parse.proofs.descent.+parse.Given as goal
 
@@ -133,6 +136,7 @@ decreases-local_stat l = 64 * l.left + 50
 
 abbrev pub invariant-expr-levels : goal.invariant-expr-levels
 invariant-expr-levels l = record {
+  grown : (e : Expr) → ReadExpr (toks_of l.cut) l.least l.left l.at e → Grown (toks_of l.cut) l.left l.at l.whole l.least e;
   part : Found (toks_of l.cut) (l.at + 1) (out-Expr l.whole).to l.left (expr_levels l.whole) (IsExpr (toks_of l.cut) (level_at (toks_of l.cut) (out-Expr l.whole).to + 1) l.at (out-Expr l.whole).to l.whole);
   least : IsExpr (toks_of l.cut) l.least l.at (out-Expr l.whole).to l.whole;
 }
@@ -142,6 +146,7 @@ decreases-expr-levels l = level_at (toks_of l.cut) (out-Expr l.whole).to
 
 abbrev pub invariant-chain-loop-next : goal.invariant-chain-loop-next
 invariant-chain-loop-next l = record {
+  ahead : Ahead (ReadSteps (toks_of l.cut) l.level l.left (out-Expr l.first).to) l.rest (ReadSteps (toks_of l.cut) l.level l.left l.sign);
   joins : Joins (AreSteps (toks_of l.cut) l.level) (out-Expr l.first).to l.sign l.rest;
   next : level_at (toks_of l.cut) l.sign ≡ l.level;
   forward : (out-Expr l.first).to ≤ l.sign;
@@ -153,6 +158,7 @@ decreases-chain-loop-next l = length (toks_of l.cut) - l.sign
 
 abbrev pub invariant-exprs-loop-found : goal.invariant-exprs-loop-found
 invariant-exprs-loop-found l = record {
+  ahead : Ahead (ReadExprs (toks_of l.cut) l.left l.fn.at) l.found (ReadExprs (toks_of l.cut) l.left l.at);
   joins : Joins (AreExprs (toks_of l.cut)) l.fn.at l.at l.found;
   forward : l.fn.at ≤ l.at;
   level : deepest (map expr_levels l.found) ≤ l.left;
@@ -163,6 +169,7 @@ decreases-exprs-loop-found l = length (toks_of l.cut) - l.at
 
 abbrev pub invariant-fields-fields : goal.invariant-fields-fields
 invariant-fields-fields l = record {
+  ahead : Ahead (ReadFields (toks_of l.cut) l.left l.fn.at) l.found (ReadFields (toks_of l.cut) l.left l.at);
   joins : Joins (AreFields (toks_of l.cut)) l.fn.at l.at l.found;
   forward : l.fn.at ≤ l.at;
   within : l.at ≤ length (toks_of l.cut);
@@ -174,6 +181,7 @@ decreases-fields-fields l = length (toks_of l.cut) - l.at
 
 abbrev pub invariant-arms-loop-found : goal.invariant-arms-loop-found
 invariant-arms-loop-found l = record {
+  ahead : Ahead (ReadArms (toks_of l.cut) l.left l.fn.at) l.found (ReadArms (toks_of l.cut) l.left l.at);
   joins : Joins (AreArms (toks_of l.cut)) l.fn.at l.at l.found;
   forward : l.fn.at ≤ l.at;
   level : deepest (map arm_levels l.found) ≤ l.left;
@@ -184,6 +192,7 @@ decreases-arms-loop-found l = length (toks_of l.cut) - l.at
 
 abbrev pub invariant-suffixes-loop-found : goal.invariant-suffixes-loop-found
 invariant-suffixes-loop-found l = record {
+  ahead : Ahead (SuffixesRead (toks_of l.cut) l.left l.fn.at) l.found (SuffixesRead (toks_of l.cut) l.left l.at);
   joins : (calls : Bool) → Joins (AreSuffixes (toks_of l.cut) calls) l.fn.at l.at l.found;
   forward : l.fn.at ≤ l.at;
   level : deepest (map suffix_levels l.found) ≤ l.left;
@@ -194,6 +203,7 @@ decreases-suffixes-loop-found l = length (toks_of l.cut) - l.at
 
 abbrev pub invariant-block-loop-stats : goal.invariant-block-loop-stats
 invariant-block-loop-stats l = record {
+  ahead : Ahead (ReadStats (toks_of l.cut) l.left l.at) l.stats (ReadStats (toks_of l.cut) l.left l.to);
   joins : Joins (AreStats (toks_of l.cut)) l.at l.to l.stats;
   forward : l.at ≤ l.to;
   within : l.to ≤ length (toks_of l.cut);
@@ -205,6 +215,7 @@ decreases-block-loop-stats l = length (toks_of l.cut) - l.to
 
 abbrev pub invariant-targets-loop-found : goal.invariant-targets-loop-found
 invariant-targets-loop-found l = record {
+  ahead : Ahead (ReadMoreTargets (toks_of l.cut) l.left l.fn.at l.first) l.found (ReadMoreTargets (toks_of l.cut) l.left l.at l.one);
   joins : Joins (AreTargets (toks_of l.cut)) l.fn.at l.at l.found;
   one : Found (toks_of l.cut) (l.at + 1) (out-Expr l.one).to l.left (expr_levels l.one) (IsVariable (toks_of l.cut) l.at (out-Expr l.one).to l.one);
   forward : l.fn.at ≤ l.at;
