@@ -1,6 +1,6 @@
 -- How exact answers of parts make exact answers of a whole.
 use Rattle.std.proofs.Common.{◌≡◌, ℕ, ◌+◌, Bool, List, [], ◌∷◌, ◌++◌, append_assoc, append-nil, refl, sym, ap, ◌∙◌, subst, arith, Ok, Err}
-use Rattle.std.specs.Prelude.{Result, IfErr}
+use Rattle.std.specs.Prelude.{Result, IfOk, IfErr}
 use Rattle.std.specs.Result.{IsErrAnd}
 use Rattle.luf_lex.specs.declared.token.Tok.{Tok}
 use Rattle.luf_tree.specs.Grammar.{IsToken}
@@ -34,6 +34,23 @@ refutes_next {A} {B} {P} {Q} {e} {x} only h = refutes_by (λ y p. (y, subst (λ 
 
 pub alone_next : {A B : Type 0} {P : A → Type 0} {Q : A → B → Type 0} {x : A} {y : B} → Alone P x → Alone (Q x) y → Alone (Then P Q) y
 alone_next {A} {B} {P} {Q} {x} {y} only h z p = h z (subst (λ (a : A). Q a z) (only p.part p.first) p.rest)
+
+-- the rest behind a part that is known
+pub then_rest : {A B : Type 0} {P : A → Type 0} {Q : A → B → Type 0} {x : A} {y : B} → Alone P x → Then P Q y → Q x y
+then_rest {A} {B} {P} {Q} {x} {y} only h = subst (λ (a : A). Q a y) (only h.part h.first) h.rest
+
+-- the same thing, made in another way
+pub alone_is : {A : Type 0} {x v : A} → x ≡ v → Alone (λ y. y ≡ x) v
+alone_is e y h = h ∙ e
+
+-- what a call answers is the answer, where the whole is what the call looks for
+pub ok_form : {A E : Type 0} {P Q : A → Type 0} (r : Result A E) → ((y : A) → P y → Q y) → IfOk r (Alone Q) → IfOk r (Alone P)
+ok_form (Ok x) f h = alone_form f h
+ok_form (Err x) f h = cc
+
+pub err_form : {R A : Type 0} {P Q : A → Type 0} (r : Result R ParseErr) → ((y : A) → P y → Q y) → IfErr r (Refutes Q) → IfErr r (Refutes P)
+err_form (Ok x) f h = cc
+err_form (Err x) f h = refutes_form f h
 
 -- one token stands at a place, and ends at one
 pub token_only : {toks : List Tok} {i j : ℕ} {t : Tok} → IsToken toks i t j → Alone (IsToken toks i t) j

@@ -1,14 +1,20 @@
-use Rattle.std.proofs.Common.{arith}
+use Rattle.std.proofs.Common.{◌≡◌, arith, ap, sym, ◌∙◌}
 use Rattle.luf_lex.specs.Tokens.{toks_of}
+use Rattle.luf_tree.specs.declared.tree.Expr.{Expr, out-Expr}
+use Rattle.luf_tree.specs.declared.tree.ExprKind.TheVariants as expr
+use Rattle.luf_tree.specs.declared.tree.StatKind.TheVariants as stat
 use Rattle.luf_lex.specs.declared.token.Tok.TheVariants.{Word, Sign}
 use Rattle.luf_lex.specs.declared.token.Word.TheVariants as word
 use Rattle.luf_lex.specs.declared.token.Sign.TheVariants as sign
-use Rattle.luf_tree.specs.Grammar.{AreArms, AreExprs, AreFields, AreStats, AreSteps, AreSuffixes, AreTargets, IsToken, last_field, last_stat, more_arms, more_exprs, more_fields, more_stats, more_steps, more_suffixes, more_targets, name_head, no_else, no_fields, no_for_step, no_stats, one_arm, one_expr, one_step, one_suffix, one_target, operand_expr, paren_head}
+use Rattle.luf_tree.specs.Grammar.{expression, statement, AreArms, AreExprs, AreFields, AreStats, AreSteps, AreSuffixes, AreTargets, IsToken, last_field, last_stat, more_arms, more_exprs, more_fields, more_stats, more_steps, more_suffixes, more_targets, name_head, no_else, no_fields, no_for_step, no_stats, one_arm, one_expr, one_step, one_suffix, one_target, operand_expr, paren_head}
 use Rattle.luf_tree.specs.Level.{expr_levels, field_levels, suffix_levels, step_levels, stat_levels, arm_levels}
 use Rattle.luf_tree.proofs.LevelEquations.{step_of_levels}
 use Rattle.luf_parse.proofs.Joining.{joins_more, joins_last, joins_end, level_more}
 use Rattle.luf_parse.proofs.ExprParts.{made_block, made_body, made_args, string_arg_found, block_found, call_found, chain_found, dot_found, func_body_found, function_found, index_found, item_found, keyed_found, list_args_found, method_found, name_found, named_found, no_args_found, operand_found, operator_at, paren_found, power_found, prefix_found, return_nothing_found, return_values_found, simple_found, suffixed_found, table_arg_found, table_expr_found, table_found, unary_found, weaken, weaken_found}
 use Rattle.luf_parse.proofs.StatParts.{arm_found, assign_found, break_found, call_shaped, do_found, else_found, empty_found, for_found, for_in_found, for_step_found, function_stat_found, if_found, local_found, local_function_found, local_values_found, repeat_found, while_found}
+use Rattle.luf_parse.proofs.Exactness.{passes, refutes_by, refutes_form, refutes_first, refutes_next, refutes_triple, alone_form, alone_next, alone_is, alone_triple, then_rest, ok_form, err_form, ahead_more, ahead_last, ahead_end, ahead_refutes, list_more, list_last, token_only}
+use Rattle.luf_parse.proofs.ExprForms.{operand_inside, unary_form, power_form, simple_inside, function_form, table_expr_form, leaf_only, prefixed_form, table_form, fields_form, fields_end, keyed_form, named_form, item_form, exprs_form, prefix_form, head_name, head_form, paren_form, suffixes_form, dot_form, index_form, method_form, call_form, args_list, args_lone, lone_string, lone_table, steps_form, operand_form, grown_end, grown_form}
+use Rattle.luf_parse.proofs.StatForms.{func_body_form, block_form, stats_form, last_form, stats_end, return_form, arms_form, arm_form, else_form, for_step_form, variable_prefix, targets_last, targets_form, stat_form}
 use Rattle.luf_parse.proofs.descent.+parse.Goals as goal
 
 pub arm-returns-clause-ok : goal.arm-returns-clause-ok
@@ -24,6 +30,7 @@ arms-loop-found-preserved t c =
     let h0 = c.in_ok-one.ensures in
     let h1 = c.in-Some.ensures in
     record {
+      ahead = ahead_more _ c.loop-found.invariant.ahead c.in_ok-push.ensures.ok (list_more arms_form h0.only h1.token);
       joins = joins_more (AreArms (toks_of c.args.cut.now)) _ _ _ _ _ _ c.loop-found.invariant.joins c.in_ok-push.ensures.ok (λ k rest h. more_arms h0.ok.derived h1.token h);
       forward = omega arith;
       level = level_more arm_levels _ _ _ _ c.loop-found.invariant.level c.in_ok-push.ensures.ok h0.ok.level;
@@ -44,6 +51,7 @@ exprs-loop-found-preserved t c =
     let h0 = c.in_ok-one.ensures in
     let h1 = c.in-Some.ensures in
     record {
+      ahead = ahead_more _ c.loop-found.invariant.ahead c.in_ok-push.ensures.ok (list_more exprs_form h0.only h1.token);
       joins = joins_more (AreExprs (toks_of c.args.cut.now)) _ _ _ _ _ _ c.loop-found.invariant.joins c.in_ok-push.ensures.ok (λ k rest h. more_exprs h0.ok.derived h1.token h);
       forward = omega arith;
       level = level_more expr_levels _ _ _ _ c.loop-found.invariant.level c.in_ok-push.ensures.ok h0.ok.level;
@@ -64,6 +72,7 @@ fields-fields-preserved t c =
     let h0 = c.in_ok-one.ensures in
     let h1 = c.in-Some.ensures in
     record {
+      ahead = ahead_more _ c.fields.invariant.ahead c.in_ok-push.ensures.ok (list_more (fields_form ?) h0.only h1.some);
       joins = joins_more (AreFields (toks_of c.args.cut.now)) _ _ _ _ _ _ c.fields.invariant.joins c.in_ok-push.ensures.ok (λ k rest h. more_fields h0.ok.derived h1.some h);
       forward = omega arith;
       within = omega arith;
@@ -100,6 +109,7 @@ pub block-loop-stats-preserved : goal.block-loop-stats-preserved
 block-loop-stats-preserved t c =
     let h0 = c.in_ok-one.ensures in
     record {
+      ahead = ahead_more _ c.loop-stats.invariant.ahead c.in_ok-push.ensures.ok (λ r q. then_rest h0.only (stats_form ? r q));
       joins = joins_more (AreStats (toks_of c.args.cut.now)) _ _ _ _ _ _ c.loop-stats.invariant.joins c.in_ok-push.ensures.ok (λ k rest h. more_stats h0.ok.derived h);
       forward = omega arith;
       within = omega arith;
@@ -123,6 +133,7 @@ chain-loop-next-preserved t c =
     let n = h0.token.next in
     let t : IsToken (toks_of c.args.cut.now) c.loop-next.sign c.in-Some.field-0-0 c.in-Some.next = record { there = cc h0.token.there; next = omega (arith, h0.token.next, c.in-Some.next-is) } in
     record {
+      ahead = ahead_more _ c.loop-next.invariant.ahead c.in_ok-push.ensures.ok (list_more (steps_form c.requires.low t) h1.only ?);
       joins = joins_more (AreSteps (toks_of c.args.cut.now) c.args.level) _ _ _ _ _ _ c.loop-next.invariant.joins c.in_ok-push.ensures.ok (λ k rest h. more_steps t (operator_at c.args.level t c.loop-next.invariant.next) h1.ok.derived h);
       next = omega (arith, c.level_at.ensures.value);
       forward = omega arith;
@@ -146,7 +157,7 @@ count_stat-returns-clause-ok t c =
     let h3 = c.in_ok-step.ensures in
     let h4 = c.in_ok-inside.ensures in
     let h5 = c.in_ok-body.ensures in
-    for_found c.requires.word c.requires.name c.requires.sign h0.ok h1.token h2.ok h3.ok h4.token h5.ok
+    for_found c.requires.word c.requires.name.name c.requires.name.sign h0.ok h1.token h2.ok h3.ok h4.token h5.ok
 
 pub do_stat-returns-clause-ok : goal.do_stat-returns-clause-ok
 do_stat-returns-clause-ok t c =
@@ -167,12 +178,13 @@ else_block-returns-in_default-clause-ok t c =
 pub expr-levels-init : goal.expr-levels-init
 expr-levels-init t c =
     let h0 = c.in_ok-whole.ensures in
-    record { part = operand_found h0.ok; least = operand_expr h0.ok.derived }
+    record { grown = λ e h. then_rest h0.only (operand_form e h); part = operand_found h0.ok; least = operand_expr h0.ok.derived }
 
 pub expr-levels-preserved : goal.expr-levels-preserved
 expr-levels-preserved t c =
     let h0 = c.in_ok-whole-2.ensures in
     record {
+      grown = ?;
       part = weaken_found (omega (arith, h0.ends)) h0.ok;
       least = weaken c.args.least (omega arith) h0.ok.derived;
     }
@@ -412,6 +424,7 @@ pub suffixes-loop-found-preserved : goal.suffixes-loop-found-preserved
 suffixes-loop-found-preserved t c =
     let h0 = c.in_ok-one.ensures in
     record {
+      ahead = ahead_more _ c.loop-found.invariant.ahead c.in_ok-push.ensures.ok (list_more suffixes_form h0.only ?);
       joins = λ calls. joins_more (AreSuffixes (toks_of c.args.cut.now) calls) _ _ _ _ _ _ (c.loop-found.invariant.joins calls) c.in_ok-push.ensures.ok (λ k rest h. more_suffixes h0.ok.derived h);
       forward = omega arith;
       level = level_more suffix_levels _ _ _ _ c.loop-found.invariant.level c.in_ok-push.ensures.ok h0.ok.level;
@@ -445,6 +458,7 @@ targets-loop-found-preserved t c =
     let h0 = c.in-Some.ensures in
     let h1 = c.in_ok-one.ensures in
     record {
+      ahead = ahead_more _ c.loop-found.invariant.ahead c.in_ok-push.ensures.ok (λ r q. then_rest h1.only (targets_form h0.token r q));
       joins = joins_more (AreTargets (toks_of c.args.cut.now)) _ _ _ _ _ _ c.loop-found.invariant.joins c.in_ok-push.ensures.ok (λ k rest h. more_targets c.loop-found.invariant.one.derived h0.token h);
       one = h1.ok;
       forward = omega arith;
@@ -475,55 +489,64 @@ simple-returns-clause-ok t c =
 pub simple-returns-in-Some-leaf-clause-ok : goal.simple-returns-in-Some-leaf-clause-ok
 simple-returns-in-Some-leaf-clause-ok t c =
     let h0 = c.in-Some.ensures in
-    let h1 = c.in-Some-leaf.ensures in
+    let h1 = c.in-Some-leaf.ensures.leaf in
     let t : IsToken (toks_of c.args.cut.now) c.args.at c.in-Some.tok c.in-Some.to = record { there = cc (h0.token.there, c.in-Some.tok-is); next = omega (arith, h0.token.next, c.in-Some.to-is) } in
     let leaf = h1 (toks_of c.args.cut.now) c.args.at c.in-Some.to t in
     record { derived = leaf.0; forward = omega (arith, t.next); within = omega (arith, h0.within, c.in-Some.to-is); level = omega (arith, leaf.1) }
 
 pub args-returns-in-Some-clause-only : goal.args-returns-in-Some-clause-only
-args-returns-in-Some-clause-only t c = ?
+args-returns-in-Some-clause-only t c = ok_form _ (args_list c.in-Some.ensures.token) c.list_args.ensures.only
 
 pub args-returns-in-Some-clause-none : goal.args-returns-in-Some-clause-none
-args-returns-in-Some-clause-none t c = ?
+args-returns-in-Some-clause-none t c = err_form _ (args_list c.in-Some.ensures.token) c.list_args.ensures.none
 
 pub args-returns-clause-only : goal.args-returns-clause-only
-args-returns-clause-only t c = ?
+args-returns-clause-only t c = alone_form (args_lone c.in_default.ensures.other) (alone_next c.in_ok-item.ensures.only ?)
 
 pub arm-returns-in_err-test-clause-none : goal.arm-returns-in_err-test-clause-none
-arm-returns-in_err-test-clause-none t c = ?
+arm-returns-in_err-test-clause-none t c = passes _ c.from_residual.ensures.1 (refutes_form arm_form (refutes_first c.in_err-test.ensures.none))
 
 pub arm-returns-in_err-inside-clause-none : goal.arm-returns-in_err-inside-clause-none
-arm-returns-in_err-inside-clause-none t c = ?
+arm-returns-in_err-inside-clause-none t c = passes _ c.from_residual-in_err-inside.ensures.1 (refutes_form arm_form (refutes_next c.in_ok-test.ensures.only (refutes_first c.in_err-inside.ensures.none)))
 
 pub arm-returns-in_err-inner-clause-none : goal.arm-returns-in_err-inner-clause-none
-arm-returns-in_err-inner-clause-none t c = ?
+arm-returns-in_err-inner-clause-none t c = passes _ c.from_residual-in_err-inner.ensures.1 (refutes_form arm_form (refutes_next c.in_ok-test.ensures.only (refutes_next c.in_ok-inside.ensures.only (refutes_first c.in_err-inner.ensures.none))))
 
 pub arm-returns-in_err-body-clause-none : goal.arm-returns-in_err-body-clause-none
-arm-returns-in_err-body-clause-none t c = ?
+arm-returns-in_err-body-clause-none t c = passes _ c.from_residual-in_err-body.ensures.1 (refutes_form arm_form (refutes_next c.in_ok-test.ensures.only (refutes_next c.in_ok-inside.ensures.only (refutes_next c.in_ok-inner.ensures.only (refutes_first c.in_err-body.ensures.none)))))
 
 pub arm-returns-clause-only : goal.arm-returns-clause-only
-arm-returns-clause-only t c = ?
+arm-returns-clause-only t c = alone_form arm_form (alone_next c.in_ok-test.ensures.only (alone_next c.in_ok-inside.ensures.only (alone_next c.in_ok-inner.ensures.only (alone_next c.in_ok-body.ensures.only ((λ y h. h))))))
 
 pub arms-returns-in_err-one-clause-none : goal.arms-returns-in_err-one-clause-none
-arms-returns-in_err-one-clause-none t c = ?
+arms-returns-in_err-one-clause-none t c = passes _ c.from_residual.ensures.1 (ahead_refutes _ c.loop-found.invariant.ahead (refutes_form arms_form (refutes_first c.in_err-one.ensures.none)))
 
 pub arms-returns-in-None-clause-only : goal.arms-returns-in-None-clause-only
-arms-returns-in-None-clause-only t c = ?
+arms-returns-in-None-clause-only t c = ahead_last _ c.loop-found.invariant.ahead c.in_ok-push.ensures.ok (list_last arms_form c.in_ok-one.ensures.only (λ next u. c.in-None.ensures.other u.there))
+
+pub exprs-returns-in_err-one-clause-none : goal.exprs-returns-in_err-one-clause-none
+exprs-returns-in_err-one-clause-none t c = passes _ c.from_residual.ensures.1 (ahead_refutes _ c.loop-found.invariant.ahead (refutes_form exprs_form (refutes_first c.in_err-one.ensures.none)))
+
+pub exprs-returns-in-None-clause-only : goal.exprs-returns-in-None-clause-only
+exprs-returns-in-None-clause-only t c = ahead_last _ c.loop-found.invariant.ahead c.in_ok-push.ensures.ok (list_last exprs_form c.in_ok-one.ensures.only (λ next u. c.in-None.ensures.other u.there))
 
 pub assign-returns-in_err-targets-clause-none : goal.assign-returns-in_err-targets-clause-none
-assign-returns-in_err-targets-clause-none t c = ?
+assign-returns-in_err-targets-clause-none t c = passes _ c.from_residual.ensures.1 (refutes_first c.in_err-targets.ensures.none)
 
 pub assign-returns-in_err-from-clause-none : goal.assign-returns-in_err-from-clause-none
-assign-returns-in_err-from-clause-none t c = ?
+assign-returns-in_err-from-clause-none t c = passes _ c.from_residual-in_err-from.ensures.1 (refutes_next c.in_ok-targets.ensures.only (refutes_first c.in_err-from.ensures.none))
 
 pub assign-returns-in_err-values-clause-none : goal.assign-returns-in_err-values-clause-none
-assign-returns-in_err-values-clause-none t c = ?
+assign-returns-in_err-values-clause-none t c = passes _ c.from_residual-in_err-values.ensures.1 (refutes_next c.in_ok-targets.ensures.only (refutes_next c.in_ok-from.ensures.only (refutes_first c.in_err-values.ensures.none)))
 
 pub assign-returns-clause-only : goal.assign-returns-clause-only
-assign-returns-clause-only t c = ?
+assign-returns-clause-only t c = alone_next c.in_ok-targets.ensures.only (alone_next c.in_ok-from.ensures.only (alone_next c.in_ok-values.ensures.only ((λ y h. h))))
 
 pub block-returns-in_err-one-clause-none : goal.block-returns-in_err-one-clause-none
-block-returns-in_err-one-clause-none t c = ?
+block-returns-in_err-one-clause-none t c = passes _ c.from_residual.ensures.1 (refutes_form block_form (refutes_first (ahead_refutes _ c.loop-stats.invariant.ahead (refutes_form (stats_form ?) (refutes_first c.in_err-one.ensures.none)))))
+
+pub block-returns-in_err-last-clause-none : goal.block-returns-in_err-last-clause-none
+block-returns-in_err-last-clause-none t c = ?
 
 pub block-returns-then-is_at-clause-only : goal.block-returns-then-is_at-clause-only
 block-returns-then-is_at-clause-only t c = ?
@@ -532,349 +555,343 @@ pub block-returns-clause-only : goal.block-returns-clause-only
 block-returns-clause-only t c = ?
 
 pub chain-returns-in_err-right-clause-none : goal.chain-returns-in_err-right-clause-none
-chain-returns-in_err-right-clause-none t c = ?
+chain-returns-in_err-right-clause-none t c = passes _ c.from_residual.ensures.1 (refutes_first (ahead_refutes _ c.loop-next.invariant.ahead (refutes_form (steps_form c.requires.low c.in-Some.ensures.token) (refutes_first c.in_err-right.ensures.none))))
 
 pub chain-returns-then-level_at-level-clause-only : goal.chain-returns-then-level_at-level-clause-only
 chain-returns-then-level_at-level-clause-only t c = ?
 
 pub do_stat-returns-in_err-body-clause-none : goal.do_stat-returns-in_err-body-clause-none
-do_stat-returns-in_err-body-clause-none t c = ?
+do_stat-returns-in_err-body-clause-none t c = passes _ c.from_residual.ensures.1 (refutes_first c.in_err-body.ensures.none)
 
 pub do_stat-returns-clause-only : goal.do_stat-returns-clause-only
-do_stat-returns-clause-only t c = ?
+do_stat-returns-clause-only t c = alone_next c.in_ok-body.ensures.only ((λ y h. h))
 
 pub else_block-returns-in_err-inner-clause-none : goal.else_block-returns-in_err-inner-clause-none
-else_block-returns-in_err-inner-clause-none t c = ?
+else_block-returns-in_err-inner-clause-none t c = passes _ c.from_residual.ensures.1 (refutes_form (else_form c.in-Some.ensures.token) (refutes_first c.in_err-inner.ensures.none))
 
 pub else_block-returns-in_err-body-clause-none : goal.else_block-returns-in_err-body-clause-none
-else_block-returns-in_err-body-clause-none t c = ?
+else_block-returns-in_err-body-clause-none t c = passes _ c.from_residual-in_err-body.ensures.1 (refutes_form (else_form c.in-Some.ensures.token) (refutes_next c.in_ok-inner.ensures.only (refutes_first c.in_err-body.ensures.none)))
 
 pub else_block-returns-clause-only : goal.else_block-returns-clause-only
-else_block-returns-clause-only t c = ?
+else_block-returns-clause-only t c = alone_form (else_form c.in-Some.ensures.token) (alone_next c.in_ok-inner.ensures.only (alone_next c.in_ok-body.ensures.only ((λ y h. h))))
 
 pub ended_block-returns-in_err-inner-clause-none : goal.ended_block-returns-in_err-inner-clause-none
-ended_block-returns-in_err-inner-clause-none t c = ?
+ended_block-returns-in_err-inner-clause-none t c = passes _ c.from_residual.ensures.1 (refutes_first c.in_err-inner.ensures.none)
 
 pub expr-returns-in_err-whole-clause-none : goal.expr-returns-in_err-whole-clause-none
-expr-returns-in_err-whole-clause-none t c = ?
+expr-returns-in_err-whole-clause-none t c = passes _ c.from_residual.ensures.1 (refutes_form operand_form (refutes_first c.in_err-whole.ensures.none))
 
 pub expr-returns-then-level-least-clause-only : goal.expr-returns-then-level-least-clause-only
-expr-returns-then-level-least-clause-only t c = ?
+expr-returns-then-level-least-clause-only t c = alone_form c.levels.invariant.grown (grown_end ?)
 
 pub expr-returns-in_err-whole-2-clause-none : goal.expr-returns-in_err-whole-2-clause-none
-expr-returns-in_err-whole-2-clause-none t c = ?
-
-pub exprs-returns-in_err-one-clause-none : goal.exprs-returns-in_err-one-clause-none
-exprs-returns-in_err-one-clause-none t c = ?
-
-pub exprs-returns-in-None-clause-only : goal.exprs-returns-in-None-clause-only
-exprs-returns-in-None-clause-only t c = ?
+expr-returns-in_err-whole-2-clause-none t c = passes _ c.from_residual-in_err-whole-2.ensures.1 (refutes_form c.levels.invariant.grown (refutes_form (grown_form ? ?) (refutes_first c.in_err-whole-2.ensures.none)))
 
 pub fields-returns-then-is_at-clause-only : goal.fields-returns-then-is_at-clause-only
-fields-returns-then-is_at-clause-only t c = ?
+fields-returns-then-is_at-clause-only t c = ahead_end _ c.fields.invariant.ahead (fields_end ?)
 
 pub fields-returns-in_err-one-clause-none : goal.fields-returns-in_err-one-clause-none
-fields-returns-in_err-one-clause-none t c = ?
+fields-returns-in_err-one-clause-none t c = passes _ c.from_residual.ensures.1 (ahead_refutes _ c.fields.invariant.ahead (refutes_form (fields_form ?) (refutes_first c.in_err-one.ensures.none)))
 
 pub fields-returns-in-None-clause-only : goal.fields-returns-in-None-clause-only
-fields-returns-in-None-clause-only t c = ?
+fields-returns-in-None-clause-only t c = ahead_last _ c.fields.invariant.ahead c.in_ok-push.ensures.ok (list_last (fields_form ?) c.in_ok-one.ensures.only c.in-None.ensures.none)
 
 pub for_step-returns-in_err-step-clause-none : goal.for_step-returns-in_err-step-clause-none
-for_step-returns-in_err-step-clause-none t c = ?
+for_step-returns-in_err-step-clause-none t c = passes _ c.from_residual.ensures.1 (refutes_form (for_step_form c.in-Some.ensures.token) (refutes_first c.in_err-step.ensures.none))
 
 pub for_step-returns-clause-only : goal.for_step-returns-clause-only
-for_step-returns-clause-only t c = ?
+for_step-returns-clause-only t c = alone_form (for_step_form c.in-Some.ensures.token) (alone_next c.in_ok-step.ensures.only ((λ y h. h)))
 
 pub func_body-returns-in_err-first-clause-none : goal.func_body-returns-in_err-first-clause-none
-func_body-returns-in_err-first-clause-none t c = ?
+func_body-returns-in_err-first-clause-none t c = passes _ c.from_residual.ensures.1 (refutes_form func_body_form (refutes_first c.in_err-first.ensures.none))
 
 pub func_body-returns-in_err-params-clause-none : goal.func_body-returns-in_err-params-clause-none
-func_body-returns-in_err-params-clause-none t c = ?
+func_body-returns-in_err-params-clause-none t c = passes _ c.from_residual-in_err-params.ensures.1 (refutes_form func_body_form (refutes_next c.in_ok-first.ensures.only (refutes_first c.in_err-params.ensures.none)))
 
 pub func_body-returns-in_err-inside-clause-none : goal.func_body-returns-in_err-inside-clause-none
-func_body-returns-in_err-inside-clause-none t c = ?
+func_body-returns-in_err-inside-clause-none t c = passes _ c.from_residual-in_err-inside.ensures.1 (refutes_form func_body_form (refutes_next c.in_ok-first.ensures.only (refutes_next c.in_ok-params.ensures.only (refutes_first c.in_err-inside.ensures.none))))
 
 pub func_body-returns-in_err-body-clause-none : goal.func_body-returns-in_err-body-clause-none
-func_body-returns-in_err-body-clause-none t c = ?
+func_body-returns-in_err-body-clause-none t c = passes _ c.from_residual-in_err-body.ensures.1 (refutes_form func_body_form (refutes_next c.in_ok-first.ensures.only (refutes_next c.in_ok-params.ensures.only (refutes_next c.in_ok-inside.ensures.only (refutes_first c.in_err-body.ensures.none)))))
 
 pub func_body-returns-in_err-to-clause-none : goal.func_body-returns-in_err-to-clause-none
-func_body-returns-in_err-to-clause-none t c = ?
+func_body-returns-in_err-to-clause-none t c = passes _ c.from_residual-in_err-to.ensures.1 (refutes_form func_body_form (refutes_next c.in_ok-first.ensures.only (refutes_next c.in_ok-params.ensures.only (refutes_next c.in_ok-inside.ensures.only (refutes_next c.in_ok-body.ensures.only (refutes_first c.in_err-to.ensures.none))))))
 
 pub func_body-returns-clause-only : goal.func_body-returns-clause-only
-func_body-returns-clause-only t c = ?
+func_body-returns-clause-only t c = alone_form func_body_form (alone_next c.in_ok-first.ensures.only (alone_next c.in_ok-params.ensures.only (alone_next c.in_ok-inside.ensures.only (alone_next c.in_ok-body.ensures.only (alone_next c.in_ok-to.ensures.only ((λ y h. h)))))))
 
 pub function-returns-in_err-inner-clause-none : goal.function-returns-in_err-inner-clause-none
-function-returns-in_err-inner-clause-none t c = ?
+function-returns-in_err-inner-clause-none t c = passes _ c.from_residual.ensures.1 (refutes_first c.in_err-inner.ensures.none)
 
 pub function_stat-returns-in_err-inner-clause-none : goal.function_stat-returns-in_err-inner-clause-none
-function_stat-returns-in_err-inner-clause-none t c = ?
-
-pub head-returns-in-Some-clause-only : goal.head-returns-in-Some-clause-only
-head-returns-in-Some-clause-only t c = ?
-
-pub head-returns-clause-only : goal.head-returns-clause-only
-head-returns-clause-only t c = ?
+function_stat-returns-in_err-inner-clause-none t c = passes _ c.from_residual.ensures.1 (refutes_first c.in_err-inner.ensures.none)
 
 pub keyed-returns-in_err-inner-clause-none : goal.keyed-returns-in_err-inner-clause-none
-keyed-returns-in_err-inner-clause-none t c = ?
+keyed-returns-in_err-inner-clause-none t c = passes _ c.from_residual.ensures.1 (refutes_first c.in_err-inner.ensures.none)
 
 pub list_args-returns-in_err-inner-clause-none : goal.list_args-returns-in_err-inner-clause-none
-list_args-returns-in_err-inner-clause-none t c = ?
-
-pub local_stat-returns-in_err-inner-clause-none : goal.local_stat-returns-in_err-inner-clause-none
-local_stat-returns-in_err-inner-clause-none t c = ?
-
-pub local_stat-returns-in_err-inside-clause-none : goal.local_stat-returns-in_err-inside-clause-none
-local_stat-returns-in_err-inside-clause-none t c = ?
-
-pub local_stat-returns-in_err-body-clause-none : goal.local_stat-returns-in_err-body-clause-none
-local_stat-returns-in_err-body-clause-none t c = ?
-
-pub local_stat-returns-in-Some-clause-only : goal.local_stat-returns-in-Some-clause-only
-local_stat-returns-in-Some-clause-only t c = ?
-
-pub local_stat-returns-in_err-values-clause-none : goal.local_stat-returns-in_err-values-clause-none
-local_stat-returns-in_err-values-clause-none t c = ?
-
-pub local_stat-returns-clause-only : goal.local_stat-returns-clause-only
-local_stat-returns-clause-only t c = ?
-
-pub lone_arg-returns-in_err-enter-clause-none : goal.lone_arg-returns-in_err-enter-clause-none
-lone_arg-returns-in_err-enter-clause-none t c = ?
-
-pub lone_arg-returns-in-Some-clause-only : goal.lone_arg-returns-in-Some-clause-only
-lone_arg-returns-in-Some-clause-only t c = ?
-
-pub lone_arg-returns-in_err-expect-clause-none : goal.lone_arg-returns-in_err-expect-clause-none
-lone_arg-returns-in_err-expect-clause-none t c = ?
-
-pub lone_arg-returns-in_err-inner-clause-none : goal.lone_arg-returns-in_err-inner-clause-none
-lone_arg-returns-in_err-inner-clause-none t c = ?
-
-pub lone_arg-returns-in_err-fields-clause-none : goal.lone_arg-returns-in_err-fields-clause-none
-lone_arg-returns-in_err-fields-clause-none t c = ?
-
-pub lone_arg-returns-clause-only : goal.lone_arg-returns-clause-only
-lone_arg-returns-clause-only t c = ?
-
-pub operand-returns-in_default-clause-none : goal.operand-returns-in_default-clause-none
-operand-returns-in_default-clause-none t c = ?
-
-pub operand-returns-in_err-inner-clause-none : goal.operand-returns-in_err-inner-clause-none
-operand-returns-in_err-inner-clause-none t c = ?
-
-pub operand-returns-in_err-operand-clause-none : goal.operand-returns-in_err-operand-clause-none
-operand-returns-in_err-operand-clause-none t c = ?
-
-pub operand-returns-then-is_unary-clause-only : goal.operand-returns-then-is_unary-clause-only
-operand-returns-then-is_unary-clause-only t c = ?
-
-pub operand-returns-clause-only : goal.operand-returns-clause-only
-operand-returns-clause-only t c = ?
-
-pub operand-returns-clause-none : goal.operand-returns-clause-none
-operand-returns-clause-none t c = ?
-
-pub paren-returns-in_err-next-clause-none : goal.paren-returns-in_err-next-clause-none
-paren-returns-in_err-next-clause-none t c = ?
-
-pub paren-returns-in_err-inner-clause-none : goal.paren-returns-in_err-inner-clause-none
-paren-returns-in_err-inner-clause-none t c = ?
-
-pub paren-returns-in_err-inside-clause-none : goal.paren-returns-in_err-inside-clause-none
-paren-returns-in_err-inside-clause-none t c = ?
-
-pub paren-returns-in_err-to-clause-none : goal.paren-returns-in_err-to-clause-none
-paren-returns-in_err-to-clause-none t c = ?
-
-pub paren-returns-clause-only : goal.paren-returns-clause-only
-paren-returns-clause-only t c = ?
-
-pub power-returns-in_err-inner-clause-none : goal.power-returns-in_err-inner-clause-none
-power-returns-in_err-inner-clause-none t c = ?
-
-pub power-returns-in_err-exponent-clause-none : goal.power-returns-in_err-exponent-clause-none
-power-returns-in_err-exponent-clause-none t c = ?
-
-pub power-returns-clause-only : goal.power-returns-clause-only
-power-returns-clause-only t c = ?
-
-pub prefix-returns-in_err-head-clause-none : goal.prefix-returns-in_err-head-clause-none
-prefix-returns-in_err-head-clause-none t c = ?
-
-pub prefix-returns-then-not-begins_suffix-clause-only : goal.prefix-returns-then-not-begins_suffix-clause-only
-prefix-returns-then-not-begins_suffix-clause-only t c = ?
-
-pub prefix-returns-in_err-found-clause-none : goal.prefix-returns-in_err-found-clause-none
-prefix-returns-in_err-found-clause-none t c = ?
-
-pub prefix-returns-clause-only : goal.prefix-returns-clause-only
-prefix-returns-clause-only t c = ?
+list_args-returns-in_err-inner-clause-none t c = passes _ c.from_residual.ensures.1 (refutes_first c.in_err-inner.ensures.none)
 
 pub repeat_stat-returns-in_err-inner-clause-none : goal.repeat_stat-returns-in_err-inner-clause-none
-repeat_stat-returns-in_err-inner-clause-none t c = ?
+repeat_stat-returns-in_err-inner-clause-none t c = passes _ c.from_residual.ensures.1 (refutes_first c.in_err-inner.ensures.none)
+
+pub head-returns-in-Some-clause-only : goal.head-returns-in-Some-clause-only
+head-returns-in-Some-clause-only t c = head_name c.in-Some.ensures.token
+
+pub head-returns-clause-only : goal.head-returns-clause-only
+head-returns-clause-only t c = alone_form (head_form c.in_default.ensures.other) (alone_next c.in_ok-expr.ensures.only (λ y h. h))
+
+pub local_stat-returns-in_err-inner-clause-none : goal.local_stat-returns-in_err-inner-clause-none
+local_stat-returns-in_err-inner-clause-none t c = passes _ c.from_residual.ensures.1 (refutes_form (λ y h. h.function _ c.in-Some.ensures.token) (refutes_first c.in_err-inner.ensures.none))
+
+pub local_stat-returns-in_err-inside-clause-none : goal.local_stat-returns-in_err-inside-clause-none
+local_stat-returns-in_err-inside-clause-none t c = passes _ c.from_residual-in_err-inside.ensures.1 (refutes_form (λ y h. h.function _ c.in-Some.ensures.token) (refutes_next c.in_ok-inner.ensures.only (refutes_first c.in_err-inside.ensures.none)))
+
+pub local_stat-returns-in_err-body-clause-none : goal.local_stat-returns-in_err-body-clause-none
+local_stat-returns-in_err-body-clause-none t c = passes _ c.from_residual-in_err-body.ensures.1 (refutes_form (λ y h. h.function _ c.in-Some.ensures.token) (refutes_next c.in_ok-inner.ensures.only (refutes_next c.in_ok-inside.ensures.only (refutes_first c.in_err-body.ensures.none))))
+
+pub local_stat-returns-in-Some-clause-only : goal.local_stat-returns-in-Some-clause-only
+local_stat-returns-in-Some-clause-only t c = alone_form (λ y h. h.function _ c.in-Some.ensures.token) (alone_next c.in_ok-inner.ensures.only (alone_next c.in_ok-inside.ensures.only (alone_next c.in_ok-body.ensures.only ((λ y h. h)))))
+
+pub local_stat-returns-in_err-values-clause-none : goal.local_stat-returns-in_err-values-clause-none
+local_stat-returns-in_err-values-clause-none t c = passes _ c.from_residual-in_err-values.ensures.1 (refutes_form (λ y h. h.named c.in_default.ensures.other) (refutes_next c.in_ok-names.ensures.only (refutes_form (λ y h. h.values _ c.in-Some-eat.ensures.token) (refutes_first c.in_err-values.ensures.none))))
+
+pub local_stat-returns-clause-only : goal.local_stat-returns-clause-only
+local_stat-returns-clause-only t c = alone_form (λ y h. h.named c.in_default.ensures.other) (alone_next c.in_ok-names.ensures.only (alone_form (λ y h. h.values _ c.in-Some-eat.ensures.token) (alone_next c.in_ok-values.ensures.only (λ y h. h))))
+
+pub lone_arg-returns-in_err-enter-clause-none : goal.lone_arg-returns-in_err-enter-clause-none
+lone_arg-returns-in_err-enter-clause-none t c = passes _ c.from_residual.ensures.1 (refutes_form (lone_string c.in-Some.ensures.some) (refutes_first c.in_err-enter.ensures.none))
+
+pub lone_arg-returns-in-Some-clause-only : goal.lone_arg-returns-in-Some-clause-only
+lone_arg-returns-in-Some-clause-only t c = alone_form (lone_string c.in-Some.ensures.some) (alone_next c.in_ok-enter.ensures.only (λ y h. h))
+
+pub lone_arg-returns-in_err-expect-clause-none : goal.lone_arg-returns-in_err-expect-clause-none
+lone_arg-returns-in_err-expect-clause-none t c = passes _ c.from_residual-in_err-expect.ensures.1 (refutes_form (lone_table c.in_default.ensures.none) (refutes_first c.in_err-expect.ensures.none))
+
+pub lone_arg-returns-in_err-inner-clause-none : goal.lone_arg-returns-in_err-inner-clause-none
+lone_arg-returns-in_err-inner-clause-none t c = passes _ c.from_residual-in_err-inner.ensures.1 (refutes_form (lone_table c.in_default.ensures.none) (refutes_next c.in_ok-expect.ensures.only (refutes_first c.in_err-inner.ensures.none)))
+
+pub lone_arg-returns-in_err-fields-clause-none : goal.lone_arg-returns-in_err-fields-clause-none
+lone_arg-returns-in_err-fields-clause-none t c = passes _ c.from_residual-in_err-fields.ensures.1 (refutes_form (lone_table c.in_default.ensures.none) (refutes_next c.in_ok-expect.ensures.only (refutes_next c.in_ok-inner.ensures.only (refutes_first c.in_err-fields.ensures.none))))
+
+pub lone_arg-returns-clause-only : goal.lone_arg-returns-clause-only
+lone_arg-returns-clause-only t c = alone_form (lone_table c.in_default.ensures.none) (alone_next c.in_ok-expect.ensures.only (alone_next c.in_ok-inner.ensures.only (alone_next c.in_ok-fields.ensures.only ((λ y h. h)))))
+
+pub operand-returns-in_default-clause-none : goal.operand-returns-in_default-clause-none
+operand-returns-in_default-clause-none t c = record { nothing = λ known. operand_inside c.in_default.ensures.end }
+
+pub operand-returns-in_err-inner-clause-none : goal.operand-returns-in_err-inner-clause-none
+operand-returns-in_err-inner-clause-none t c = passes _ c.from_residual.ensures.1 (refutes_form (unary_form c.in-Some.ensures.token ?) (refutes_first c.in_err-inner.ensures.none))
+
+pub operand-returns-in_err-operand-clause-none : goal.operand-returns-in_err-operand-clause-none
+operand-returns-in_err-operand-clause-none t c = passes _ c.from_residual-in_err-operand.ensures.1 (refutes_form (unary_form c.in-Some.ensures.token ?) (refutes_next c.in_ok-inner.ensures.only (refutes_first c.in_err-operand.ensures.none)))
+
+pub operand-returns-then-is_unary-clause-only : goal.operand-returns-then-is_unary-clause-only
+operand-returns-then-is_unary-clause-only t c = alone_form (unary_form c.in-Some.ensures.token ?) (alone_next c.in_ok-inner.ensures.only (alone_next c.in_ok-operand.ensures.only (alone_is (ap (λ (b : Expr). expression _ _ (expr.Unary b)) (sym c.in_ok-new.ensures)))))
+
+pub operand-returns-clause-only : goal.operand-returns-clause-only
+operand-returns-clause-only t c = ok_form _ (power_form c.in-Some.ensures.token ?) c.power.ensures.only
+
+pub operand-returns-clause-none : goal.operand-returns-clause-none
+operand-returns-clause-none t c = err_form _ (power_form c.in-Some.ensures.token ?) c.power.ensures.none
+
+pub paren-returns-in_err-next-clause-none : goal.paren-returns-in_err-next-clause-none
+paren-returns-in_err-next-clause-none t c = passes _ c.from_residual.ensures.1 (refutes_form paren_form (refutes_first c.in_err-next.ensures.none))
+
+pub paren-returns-in_err-inner-clause-none : goal.paren-returns-in_err-inner-clause-none
+paren-returns-in_err-inner-clause-none t c = passes _ c.from_residual-in_err-inner.ensures.1 (refutes_form paren_form (refutes_next c.in_ok-next.ensures.only (refutes_first c.in_err-inner.ensures.none)))
+
+pub paren-returns-in_err-inside-clause-none : goal.paren-returns-in_err-inside-clause-none
+paren-returns-in_err-inside-clause-none t c = passes _ c.from_residual-in_err-inside.ensures.1 (refutes_form paren_form (refutes_next c.in_ok-next.ensures.only (refutes_next c.in_ok-inner.ensures.only (refutes_first c.in_err-inside.ensures.none))))
+
+pub paren-returns-in_err-to-clause-none : goal.paren-returns-in_err-to-clause-none
+paren-returns-in_err-to-clause-none t c = passes _ c.from_residual-in_err-to.ensures.1 (refutes_form paren_form (refutes_next c.in_ok-next.ensures.only (refutes_next c.in_ok-inner.ensures.only (refutes_next c.in_ok-inside.ensures.only (refutes_first c.in_err-to.ensures.none)))))
+
+pub paren-returns-clause-only : goal.paren-returns-clause-only
+paren-returns-clause-only t c = alone_form paren_form (alone_next c.in_ok-next.ensures.only (alone_next c.in_ok-inner.ensures.only (alone_next c.in_ok-inside.ensures.only (alone_next c.in_ok-to.ensures.only (alone_is (ap (λ (b : Expr). expression _ _ (expr.Paren b)) (sym c.in_ok-new.ensures)))))))
+
+pub power-returns-in_err-inner-clause-none : goal.power-returns-in_err-inner-clause-none
+power-returns-in_err-inner-clause-none t c = passes _ c.from_residual-in_err-inner.ensures.1 (refutes_next c.in_ok-base.ensures.only (refutes_form (λ y h. h.power _ c.in-Some.ensures.token) (refutes_first c.in_err-inner.ensures.none)))
+
+pub power-returns-in_err-exponent-clause-none : goal.power-returns-in_err-exponent-clause-none
+power-returns-in_err-exponent-clause-none t c = passes _ c.from_residual-in_err-exponent.ensures.1 (refutes_next c.in_ok-base.ensures.only (refutes_form (λ y h. h.power _ c.in-Some.ensures.token) (refutes_next c.in_ok-inner.ensures.only (refutes_first c.in_err-exponent.ensures.none))))
+
+pub power-returns-clause-only : goal.power-returns-clause-only
+power-returns-clause-only t c = alone_next c.in_ok-base.ensures.only (alone_form (λ y h. h.power _ c.in-Some.ensures.token) (alone_next c.in_ok-inner.ensures.only (alone_next c.in_ok-exponent.ensures.only (alone_is ?))))
+
+pub prefix-returns-in_err-head-clause-none : goal.prefix-returns-in_err-head-clause-none
+prefix-returns-in_err-head-clause-none t c = passes _ c.from_residual.ensures.1 (refutes_form prefix_form (refutes_first c.in_err-head.ensures.none))
+
+pub prefix-returns-then-not-begins_suffix-clause-only : goal.prefix-returns-then-not-begins_suffix-clause-only
+prefix-returns-then-not-begins_suffix-clause-only t c = alone_form prefix_form (alone_next c.in_ok-head.ensures.only (λ y h. h.alone ?))
+
+pub prefix-returns-in_err-found-clause-none : goal.prefix-returns-in_err-found-clause-none
+prefix-returns-in_err-found-clause-none t c = passes _ c.from_residual-in_err-found.ensures.1 (refutes_form prefix_form (refutes_next c.in_ok-head.ensures.only (refutes_form (λ y h. h.more ?) (refutes_first c.in_err-found.ensures.none))))
+
+pub prefix-returns-clause-only : goal.prefix-returns-clause-only
+prefix-returns-clause-only t c = alone_form prefix_form (alone_next c.in_ok-head.ensures.only (alone_form (λ y h. h.more ?) (alone_next c.in_ok-found.ensures.only (alone_is ?))))
 
 pub simple-returns-in_default-clause-none : goal.simple-returns-in_default-clause-none
-simple-returns-in_default-clause-none t c = ?
+simple-returns-in_default-clause-none t c = record { nothing = λ known. simple_inside c.in_default.ensures.end }
 
 pub simple-returns-in-Word-Function-clause-only : goal.simple-returns-in-Word-Function-clause-only
-simple-returns-in-Word-Function-clause-only t c = ?
+simple-returns-in-Word-Function-clause-only t c = ok_form _ (function_form ?) c.function.ensures.only
 
 pub simple-returns-in-Word-Function-clause-none : goal.simple-returns-in-Word-Function-clause-none
-simple-returns-in-Word-Function-clause-none t c = ?
+simple-returns-in-Word-Function-clause-none t c = err_form _ (function_form ?) c.function.ensures.none
 
 pub simple-returns-in-Sign-LeftBrace-clause-only : goal.simple-returns-in-Sign-LeftBrace-clause-only
-simple-returns-in-Sign-LeftBrace-clause-only t c = ?
+simple-returns-in-Sign-LeftBrace-clause-only t c = ok_form _ (table_expr_form ?) c.table_expr.ensures.only
 
 pub simple-returns-in-Sign-LeftBrace-clause-none : goal.simple-returns-in-Sign-LeftBrace-clause-none
-simple-returns-in-Sign-LeftBrace-clause-none t c = ?
+simple-returns-in-Sign-LeftBrace-clause-none t c = err_form _ (table_expr_form ?) c.table_expr.ensures.none
 
 pub simple-returns-in-Some-leaf-clause-only : goal.simple-returns-in-Some-leaf-clause-only
-simple-returns-in-Some-leaf-clause-only t c = ?
+simple-returns-in-Some-leaf-clause-only t c = leaf_only c.in-Some.ensures.token ?
 
 pub simple-returns-in_err-found-clause-none : goal.simple-returns-in_err-found-clause-none
-simple-returns-in_err-found-clause-none t c = ?
+simple-returns-in_err-found-clause-none t c = passes _ c.from_residual.ensures.1 (refutes_form (prefixed_form c.in-Some.ensures.token ? ? ?) (refutes_first c.in_err-found.ensures.none))
 
 pub simple-returns-clause-only : goal.simple-returns-clause-only
-simple-returns-clause-only t c = ?
+simple-returns-clause-only t c = alone_form (prefixed_form c.in-Some.ensures.token ? ? ?) (alone_next c.in_ok-found.ensures.only (λ y h. h))
 
 pub stat-returns-in-Some-Word-If-default-clause-only : goal.stat-returns-in-Some-Word-If-default-clause-only
-stat-returns-in-Some-Word-If-default-clause-only t c = ?
+stat-returns-in-Some-Word-If-default-clause-only t c = ok_form _ ? c.if_stat.ensures.only
 
 pub stat-returns-in-Some-Word-If-default-clause-none : goal.stat-returns-in-Some-Word-If-default-clause-none
-stat-returns-in-Some-Word-If-default-clause-none t c = ?
+stat-returns-in-Some-Word-If-default-clause-none t c = err_form _ ? c.if_stat.ensures.none
 
 pub stat-returns-in-Some-Word-While-default-clause-only : goal.stat-returns-in-Some-Word-While-default-clause-only
-stat-returns-in-Some-Word-While-default-clause-only t c = ?
+stat-returns-in-Some-Word-While-default-clause-only t c = ok_form _ ? c.while_stat.ensures.only
 
 pub stat-returns-in-Some-Word-While-default-clause-none : goal.stat-returns-in-Some-Word-While-default-clause-none
-stat-returns-in-Some-Word-While-default-clause-none t c = ?
+stat-returns-in-Some-Word-While-default-clause-none t c = err_form _ ? c.while_stat.ensures.none
 
 pub stat-returns-in-Some-Word-Do-default-clause-only : goal.stat-returns-in-Some-Word-Do-default-clause-only
-stat-returns-in-Some-Word-Do-default-clause-only t c = ?
+stat-returns-in-Some-Word-Do-default-clause-only t c = ok_form _ ? c.do_stat.ensures.only
 
 pub stat-returns-in-Some-Word-Do-default-clause-none : goal.stat-returns-in-Some-Word-Do-default-clause-none
-stat-returns-in-Some-Word-Do-default-clause-none t c = ?
+stat-returns-in-Some-Word-Do-default-clause-none t c = err_form _ ? c.do_stat.ensures.none
 
 pub stat-returns-in-Some-Word-For-default-clause-only : goal.stat-returns-in-Some-Word-For-default-clause-only
-stat-returns-in-Some-Word-For-default-clause-only t c = ?
+stat-returns-in-Some-Word-For-default-clause-only t c = ok_form _ ? c.for_stat.ensures.only
 
 pub stat-returns-in-Some-Word-For-default-clause-none : goal.stat-returns-in-Some-Word-For-default-clause-none
-stat-returns-in-Some-Word-For-default-clause-none t c = ?
+stat-returns-in-Some-Word-For-default-clause-none t c = err_form _ ? c.for_stat.ensures.none
 
 pub stat-returns-in-Some-Word-Repeat-default-clause-only : goal.stat-returns-in-Some-Word-Repeat-default-clause-only
-stat-returns-in-Some-Word-Repeat-default-clause-only t c = ?
+stat-returns-in-Some-Word-Repeat-default-clause-only t c = ok_form _ ? c.repeat_stat.ensures.only
 
 pub stat-returns-in-Some-Word-Repeat-default-clause-none : goal.stat-returns-in-Some-Word-Repeat-default-clause-none
-stat-returns-in-Some-Word-Repeat-default-clause-none t c = ?
+stat-returns-in-Some-Word-Repeat-default-clause-none t c = err_form _ ? c.repeat_stat.ensures.none
 
 pub stat-returns-in-Some-Word-Function-default-clause-only : goal.stat-returns-in-Some-Word-Function-default-clause-only
-stat-returns-in-Some-Word-Function-default-clause-only t c = ?
+stat-returns-in-Some-Word-Function-default-clause-only t c = ok_form _ ? c.function_stat.ensures.only
 
 pub stat-returns-in-Some-Word-Function-default-clause-none : goal.stat-returns-in-Some-Word-Function-default-clause-none
-stat-returns-in-Some-Word-Function-default-clause-none t c = ?
+stat-returns-in-Some-Word-Function-default-clause-none t c = err_form _ ? c.function_stat.ensures.none
 
 pub stat-returns-in-Some-Word-Local-default-clause-only : goal.stat-returns-in-Some-Word-Local-default-clause-only
-stat-returns-in-Some-Word-Local-default-clause-only t c = ?
+stat-returns-in-Some-Word-Local-default-clause-only t c = ok_form _ ? c.local_stat.ensures.only
 
 pub stat-returns-in-Some-Word-Local-default-clause-none : goal.stat-returns-in-Some-Word-Local-default-clause-none
-stat-returns-in-Some-Word-Local-default-clause-none t c = ?
+stat-returns-in-Some-Word-Local-default-clause-none t c = err_form _ ? c.local_stat.ensures.none
 
 pub stat-returns-in-Some-Word-Goto-default-clause-only : goal.stat-returns-in-Some-Word-Goto-default-clause-only
-stat-returns-in-Some-Word-Goto-default-clause-only t c = ?
+stat-returns-in-Some-Word-Goto-default-clause-only t c = ok_form _ ? c.goto_stat.ensures.only
 
 pub stat-returns-in-Some-Word-Goto-default-clause-none : goal.stat-returns-in-Some-Word-Goto-default-clause-none
-stat-returns-in-Some-Word-Goto-default-clause-none t c = ?
+stat-returns-in-Some-Word-Goto-default-clause-none t c = err_form _ ? c.goto_stat.ensures.none
+
+pub stat-returns-in-Some-Sign-DoubleColon-default-clause-only : goal.stat-returns-in-Some-Sign-DoubleColon-default-clause-only
+stat-returns-in-Some-Sign-DoubleColon-default-clause-only t c = ok_form _ ? c.label_stat.ensures.only
+
+pub stat-returns-in-Some-Sign-DoubleColon-default-clause-none : goal.stat-returns-in-Some-Sign-DoubleColon-default-clause-none
+stat-returns-in-Some-Sign-DoubleColon-default-clause-none t c = err_form _ ? c.label_stat.ensures.none
 
 pub stat-returns-in-Some-Word-Break-default-clause-only : goal.stat-returns-in-Some-Word-Break-default-clause-only
 stat-returns-in-Some-Word-Break-default-clause-only t c = ?
-
-pub stat-returns-in-Some-Sign-DoubleColon-default-clause-only : goal.stat-returns-in-Some-Sign-DoubleColon-default-clause-only
-stat-returns-in-Some-Sign-DoubleColon-default-clause-only t c = ?
-
-pub stat-returns-in-Some-Sign-DoubleColon-default-clause-none : goal.stat-returns-in-Some-Sign-DoubleColon-default-clause-none
-stat-returns-in-Some-Sign-DoubleColon-default-clause-none t c = ?
 
 pub stat-returns-in-Some-Sign-Semicolon-default-clause-only : goal.stat-returns-in-Some-Sign-Semicolon-default-clause-only
 stat-returns-in-Some-Sign-Semicolon-default-clause-only t c = ?
 
 pub stat-returns-in_default-clause-only : goal.stat-returns-in_default-clause-only
-stat-returns-in_default-clause-only t c = ?
+stat-returns-in_default-clause-only t c = ok_form _ ? c.expr_stat.ensures.only
 
 pub stat-returns-in_default-clause-none : goal.stat-returns-in_default-clause-none
-stat-returns-in_default-clause-none t c = ?
+stat-returns-in_default-clause-none t c = err_form _ ? c.expr_stat.ensures.none
 
 pub suffix-returns-in_err-to-clause-none : goal.suffix-returns-in_err-to-clause-none
-suffix-returns-in_err-to-clause-none t c = ?
+suffix-returns-in_err-to-clause-none t c = passes _ c.from_residual.ensures.1 (refutes_form (dot_form c.in-Some.ensures.token) (refutes_first c.in_err-to.ensures.none))
 
 pub suffix-returns-in-Some-clause-only : goal.suffix-returns-in-Some-clause-only
-suffix-returns-in-Some-clause-only t c = ?
+suffix-returns-in-Some-clause-only t c = alone_form (dot_form c.in-Some.ensures.token) (alone_next c.in_ok-to.ensures.only (λ y h. h))
 
 pub suffix-returns-in_err-inner-clause-none : goal.suffix-returns-in_err-inner-clause-none
-suffix-returns-in_err-inner-clause-none t c = ?
+suffix-returns-in_err-inner-clause-none t c = passes _ c.from_residual-in_err-inner.ensures.1 (refutes_form (index_form c.in-Some-eat.ensures.token) (refutes_first c.in_err-inner.ensures.none))
 
 pub suffix-returns-in_err-key-clause-none : goal.suffix-returns-in_err-key-clause-none
-suffix-returns-in_err-key-clause-none t c = ?
+suffix-returns-in_err-key-clause-none t c = passes _ c.from_residual-in_err-key.ensures.1 (refutes_form (index_form c.in-Some-eat.ensures.token) (refutes_next c.in_ok-inner.ensures.only (refutes_first c.in_err-key.ensures.none)))
 
 pub suffix-returns-in_err-to-2-clause-none : goal.suffix-returns-in_err-to-2-clause-none
-suffix-returns-in_err-to-2-clause-none t c = ?
+suffix-returns-in_err-to-2-clause-none t c = passes _ c.from_residual-in_err-to-2.ensures.1 (refutes_form (index_form c.in-Some-eat.ensures.token) (refutes_next c.in_ok-inner.ensures.only (refutes_next c.in_ok-key.ensures.only (refutes_first c.in_err-to-2.ensures.none))))
 
 pub suffix-returns-in-Some-eat-clause-only : goal.suffix-returns-in-Some-eat-clause-only
-suffix-returns-in-Some-eat-clause-only t c = ?
+suffix-returns-in-Some-eat-clause-only t c = alone_form (index_form c.in-Some-eat.ensures.token) (alone_next c.in_ok-inner.ensures.only (alone_next c.in_ok-key.ensures.only (alone_next c.in_ok-to-2.ensures.only ((λ y h. h)))))
 
 pub suffix-returns-in_err-after-clause-none : goal.suffix-returns-in_err-after-clause-none
-suffix-returns-in_err-after-clause-none t c = ?
+suffix-returns-in_err-after-clause-none t c = passes _ c.from_residual-in_err-after.ensures.1 (refutes_form (method_form c.in-Some-eat-2.ensures.token) (refutes_first c.in_err-after.ensures.none))
 
 pub suffix-returns-in_err-given-clause-none : goal.suffix-returns-in_err-given-clause-none
-suffix-returns-in_err-given-clause-none t c = ?
+suffix-returns-in_err-given-clause-none t c = passes _ c.from_residual-in_err-given.ensures.1 (refutes_form (method_form c.in-Some-eat-2.ensures.token) (refutes_next c.in_ok-after.ensures.only (refutes_first c.in_err-given.ensures.none)))
 
 pub suffix-returns-in-Some-eat-2-clause-only : goal.suffix-returns-in-Some-eat-2-clause-only
-suffix-returns-in-Some-eat-2-clause-only t c = ?
+suffix-returns-in-Some-eat-2-clause-only t c = alone_form (method_form c.in-Some-eat-2.ensures.token) (alone_next c.in_ok-after.ensures.only (alone_next c.in_ok-given.ensures.only ((λ y h. h))))
 
 pub suffix-returns-in_err-given-2-clause-none : goal.suffix-returns-in_err-given-2-clause-none
-suffix-returns-in_err-given-2-clause-none t c = ?
+suffix-returns-in_err-given-2-clause-none t c = passes _ c.from_residual-in_err-given-2.ensures.1 (refutes_form (call_form c.in_default.ensures.other c.in_default-eat.ensures.other c.in_default-eat-2.ensures.other) (refutes_first c.in_err-given-2.ensures.none))
 
 pub suffix-returns-clause-only : goal.suffix-returns-clause-only
-suffix-returns-clause-only t c = ?
+suffix-returns-clause-only t c = alone_form (call_form c.in_default.ensures.other c.in_default-eat.ensures.other c.in_default-eat-2.ensures.other) (alone_next c.in_ok-given-2.ensures.only ((λ y h. h)))
 
 pub suffixes-returns-in_err-one-clause-none : goal.suffixes-returns-in_err-one-clause-none
-suffixes-returns-in_err-one-clause-none t c = ?
+suffixes-returns-in_err-one-clause-none t c = passes _ c.from_residual.ensures.1 (refutes_triple _ (ahead_refutes _ c.loop-found.invariant.ahead (refutes_form suffixes_form (refutes_first c.in_err-one.ensures.none))))
 
 pub suffixes-returns-then-not-begins_suffix-clause-only : goal.suffixes-returns-then-not-begins_suffix-clause-only
-suffixes-returns-then-not-begins_suffix-clause-only t c = ?
+suffixes-returns-then-not-begins_suffix-clause-only t c = alone_triple _ (ahead_last _ c.loop-found.invariant.ahead c.in_ok-push.ensures.ok (list_last suffixes_form c.in_ok-one.ensures.only (λ next h. ?)))
 
 pub table-returns-in_err-first-clause-none : goal.table-returns-in_err-first-clause-none
-table-returns-in_err-first-clause-none t c = ?
+table-returns-in_err-first-clause-none t c = passes _ c.from_residual.ensures.1 (refutes_form table_form (refutes_first c.in_err-first.ensures.none))
 
 pub table-returns-in_err-inner-clause-none : goal.table-returns-in_err-inner-clause-none
-table-returns-in_err-inner-clause-none t c = ?
+table-returns-in_err-inner-clause-none t c = passes _ c.from_residual-in_err-inner.ensures.1 (refutes_form table_form (refutes_next c.in_ok-first.ensures.only (refutes_first c.in_err-inner.ensures.none)))
 
 pub table-returns-in_err-found-clause-none : goal.table-returns-in_err-found-clause-none
-table-returns-in_err-found-clause-none t c = ?
+table-returns-in_err-found-clause-none t c = passes _ c.from_residual-in_err-found.ensures.1 (refutes_form table_form (refutes_next c.in_ok-first.ensures.only (refutes_next c.in_ok-inner.ensures.only (refutes_first c.in_err-found.ensures.none))))
 
 pub table-returns-in_err-to-clause-none : goal.table-returns-in_err-to-clause-none
-table-returns-in_err-to-clause-none t c = ?
+table-returns-in_err-to-clause-none t c = passes _ c.from_residual-in_err-to.ensures.1 (refutes_form table_form (refutes_next c.in_ok-first.ensures.only (refutes_next c.in_ok-inner.ensures.only (refutes_next c.in_ok-found.ensures.only (refutes_first c.in_err-to.ensures.none)))))
 
 pub table-returns-clause-only : goal.table-returns-clause-only
-table-returns-clause-only t c = ?
+table-returns-clause-only t c = alone_form table_form (alone_next c.in_ok-first.ensures.only (alone_next c.in_ok-inner.ensures.only (alone_next c.in_ok-found.ensures.only (alone_next c.in_ok-to.ensures.only ((λ y h. h))))))
 
 pub targets-returns-in_default-clause-only : goal.targets-returns-in_default-clause-only
-targets-returns-in_default-clause-only t c = ?
+targets-returns-in_default-clause-only t c = ahead_last _ c.loop-found.invariant.ahead c.in_ok-push.ensures.ok (targets_last c.in_default.ensures.other)
 
 pub targets-returns-in_err-one-clause-none : goal.targets-returns-in_err-one-clause-none
-targets-returns-in_err-one-clause-none t c = ?
+targets-returns-in_err-one-clause-none t c = passes _ c.from_residual-in_err-one.ensures.1 (ahead_refutes _ c.loop-found.invariant.ahead (refutes_form (targets_form c.in-Some.ensures.token) (refutes_first c.in_err-one.ensures.none)))
 
 pub variable-returns-in_err-prefix-clause-none : goal.variable-returns-in_err-prefix-clause-none
-variable-returns-in_err-prefix-clause-none t c = ?
+variable-returns-in_err-prefix-clause-none t c = passes _ c.from_residual.ensures.1 (refutes_by (λ y h. (_, variable_prefix y h)) c.in_err-prefix.ensures.none)
 
 pub variable-returns-in-Variable-clause-only : goal.variable-returns-in-Variable-clause-only
-variable-returns-in-Variable-clause-only t c = ?
+variable-returns-in-Variable-clause-only t c = λ y h. ?
 
 pub variable-returns-in_default : goal.variable-returns-in_default
 variable-returns-in_default t c = ?
 
 pub while_stat-returns-in_err-body-clause-none : goal.while_stat-returns-in_err-body-clause-none
-while_stat-returns-in_err-body-clause-none t c = ?
+while_stat-returns-in_err-body-clause-none t c = passes _ c.from_residual-in_err-body.ensures.1 (refutes_next c.in_ok-test.ensures.only (refutes_next c.in_ok-inside.ensures.only (refutes_first c.in_err-body.ensures.none)))
 
 pub while_stat-returns-clause-only : goal.while_stat-returns-clause-only
-while_stat-returns-clause-only t c = ?
+while_stat-returns-clause-only t c = alone_next c.in_ok-test.ensures.only (alone_next c.in_ok-inside.ensures.only (alone_next c.in_ok-body.ensures.only (λ y h. h)))
