@@ -1,20 +1,11 @@
 -- Each part of an expression that is looked for at a place, in the form in which it is read: from the token that stands
 -- there, one part after another.
-use Rattle.std.proofs.Common.{◌≡◌, ℕ, zero, suc, ◌+◌, ◌<◌, ◌≤◌, ◌⊎◌, inl, inr, Bool, true, false, Option, Some, None, List, [], ◌∷◌, length, map, max, refl, sym, ap, ◌∙◌, subst, arith}
+use Rattle.std.proofs.Common.{◌≡◌, ℕ, ◌+◌, ◌<◌, ◌≤◌, ◌⊎◌, inl, inr, Bool, true, false, Option, Some, None, List, [], ◌∷◌, length, map, refl, sym, ap, ◌∙◌, subst, arith}
 use Rattle.std.specs.Prelude.{slice_get}
-use Rattle.std.specs.Option.{option_map}
 use Rattle.luf_lex.specs.declared.token.Tok.{Tok}
-use Rattle.luf_lex.specs.declared.token.Tok.TheVariants.{Name, Number, Short, Long, Word, Sign}
-use Rattle.luf_lex.specs.declared.token.Word.{Word as Keyword}
+use Rattle.luf_lex.specs.declared.token.Tok.TheVariants.{Name, Short, Long, Word, Sign}
 use Rattle.luf_lex.specs.declared.token.Word.TheVariants as word
-use Rattle.luf_lex.specs.declared.token.Sign.{Sign as Mark}
 use Rattle.luf_lex.specs.declared.token.Sign.TheVariants as sign
-use Rattle.luf_tree.specs.declared.tree.Block.{Block, roll-Block, out-Block}
-use Rattle.luf_tree.specs.declared.tree.Stat.{Stat, out-Stat}
-use Rattle.luf_tree.specs.declared.tree.StatKind.TheVariants as stat
-use Rattle.luf_tree.specs.declared.tree.Declared.{Declared}
-use Rattle.luf_tree.specs.declared.tree.Arm.{Arm, roll-Arm}
-use Rattle.luf_tree.specs.declared.tree.FuncBody.{FuncBody, roll-FuncBody, out-FuncBody}
 use Rattle.luf_tree.specs.declared.tree.Expr.{Expr, out-Expr}
 use Rattle.luf_tree.specs.declared.tree.ExprKind.{ExprKind}
 use Rattle.luf_tree.specs.declared.tree.ExprKind.TheVariants as expr
@@ -25,16 +16,15 @@ use Rattle.luf_tree.specs.declared.tree.Suffix.TheVariants as suffix
 use Rattle.luf_tree.specs.declared.tree.Args.{Args, roll-Args, out-Args}
 use Rattle.luf_tree.specs.declared.tree.Field.{Field}
 use Rattle.luf_tree.specs.declared.tree.Field.TheVariants as field
-use Rattle.luf_tree.specs.Operator.{binary_level, is_unary}
-use Rattle.luf_tree.specs.Level.{deepest, expr_levels, field_levels, suffix_levels, step_levels, stat_levels, block_levels, arm_levels, args_levels, body_levels, if_there, block_if_there}
+use Rattle.luf_tree.specs.Operator.{is_unary}
+use Rattle.luf_tree.specs.Level.{deepest, expr_levels, field_levels, suffix_levels, step_levels, args_levels, body_levels}
 use Rattle.luf_tree.specs.Grammar as g
-use Rattle.luf_tree.specs.Grammar.{At, expression, statement, IsToken, IsString, AreNames, AreParams, IsAttribute, AreDeclared, IsPath, IsMethod, IsSemicolon, IsExpr, AreSteps, IsOperand, IsSimple, IsPrefix, IsVariable, IsCall, IsParen, IsHead, AreSuffixes, IsSuffix, IsArgs, AreExprs, IsTable, AreFields, IsField, IsFuncBody, IsBlock, AreStats, IsReturn, IsStat, AreTargets, IsArm, AreArms, IsElse, IsForStep}
+use Rattle.luf_tree.specs.Grammar.{At, expression, IsToken, IsString, IsExpr, AreSteps, IsOperand, IsSimple, IsPrefix, IsVariable, IsCall, IsParen, IsHead, AreSuffixes, IsSuffix, IsArgs, AreExprs, IsTable, AreFields, IsField}
 use Rattle.luf_tree.proofs.LevelEquations as lv
-use Rattle.luf_parse.specs.Exact.{Alone, Then, Enters}
-use Rattle.luf_parse.specs.Follow.{NotAt, NotAssigned, NotString, IsSeparator, continues_prefix, EndsOperand, EndsExpr, EndsExprs, ends_block, stops_stats, ends_return, EndsBlock, EndsStat, EndsArms, EndsField, ends_field}
-use Rattle.luf_parse.specs.Parts as parts
-use Rattle.luf_parse.specs.Parts.{Part, ReadExpr, ReadSteps, ReadChain, ReadOperand, ReadSimple, ReadUnary, ReadExponent, ReadPowerRest, ReadPower, ReadFuncBody, ReadFunction, ReadTable, ReadTableExpr, ReadFields, ReadField, ReadKeyed, ReadExprs, ReadPrefix, ReadHead, ReadParen, ReadSuffixes, ReadSuffix, ReadArgs, list_args, ReadListRest, ReadListArgs, ReadLoneArg}
-use Rattle.luf_parse.specs.Reads.{begins_suffix, token_begins_suffix, level_at, level_of}
+use Rattle.luf_parse.specs.Exact.{Then, Enters}
+use Rattle.luf_parse.specs.Follow.{NotAt, NotAssigned, NotString, IsSeparator, continues_prefix, EndsOperand, EndsExpr, EndsExprs, EndsField, ends_field}
+use Rattle.luf_parse.specs.Parts.{ReadExpr, ReadSteps, ReadChain, ReadOperand, ReadSimple, ReadUnary, ReadExponent, ReadPower, ReadFunction, ReadTable, ReadTableExpr, ReadFields, ReadField, ReadKeyed, ReadExprs, ReadPrefix, ReadHead, ReadParen, ReadSuffixes, ReadSuffix, ReadArgs, list_args, ReadListArgs, ReadLoneArg}
+use Rattle.luf_parse.specs.Reads.{begins_suffix, level_at}
 use Rattle.luf_parse.specs.Shapes.{IsShaped, suffixed_shape, lone_args, leaf_kind}
 use Rattle.luf_parse.specs.declared.descent.PrefixExpr.{PrefixExpr}
 use Rattle.luf_parse.specs.declared.descent.Shape.{Shape}
@@ -46,33 +36,8 @@ use Rattle.luf_tree.proofs.TokenLaws.{expr_starts}
 use Rattle.luf_tree.specs.First.{starts_expr}
 use Rattle.luf_parse.proofs.NameForms.{same_end}
 use Rattle.luf_parse.proofs.Begins.{expr_inside, table_begins, paren_begins, prefix_begins, string_begins, unary_at, simple_begins, begins_args, args_begin, suffixes_begin, steps_begin, exprs_start, field_begins, expr_name_end}
-use Rattle.luf_parse.proofs.Ends.{moved, paren_to, head_to, variable_to, call_to, prefix_to, shaped_to, simple_to, operand_to, expr_to, args_to, body_to}
-use Rattle.luf_parse.proofs.Following.{not_at, not_at_other, is_power, closes_expr, token_closes, stat_ends_expr, field_ends_expr, binary_ends_operand, suffix_continues, closed_suffix}
-
--- A part at the end that it names.
-
-read_expr : {toks : List Tok} {n left i j : ℕ} {e : Expr} → IsExpr toks n i j e → EndsExpr toks n j → expr_levels e ≤ left → ReadExpr toks n left i e
-read_expr {toks} {n} {left} {i} {j} {e} d ends level =
-    record { is = subst (λ (p : ℕ). IsExpr toks n i p e) (sym (expr_to d)) d; ends = subst (λ (p : ℕ). EndsExpr toks n p) (sym (expr_to d)) ends; level = level }
-
-read_operand : {toks : List Tok} {left i j : ℕ} {e : Expr} → IsOperand toks i j e → EndsOperand toks j → expr_levels e ≤ left → ReadOperand toks left i e
-read_operand {toks} {left} {i} {j} {e} d ends level =
-    record { is = subst (λ (p : ℕ). IsOperand toks i p e) (sym (operand_to d)) d; ends = subst (λ (p : ℕ). EndsOperand toks p) (sym (operand_to d)) ends; level = level }
-
-read_simple : {toks : List Tok} {left i j : ℕ} {e : Expr} → IsSimple toks i j e → continues_prefix (slice_get toks j) ≡ false → expr_levels e ≤ left → ReadSimple toks left i e
-read_simple {toks} {left} {i} {j} {e} d ends level =
-    record { is = subst (λ (p : ℕ). IsSimple toks i p e) (sym (simple_to d)) d; ends = subst (λ (p : ℕ). continues_prefix (slice_get toks p) ≡ false) (sym (simple_to d)) ends; level = level }
-
-read_args : {toks : List Tok} {left i j : ℕ} {a : Args} → IsArgs toks i j a → args_levels a ≤ left → ReadArgs toks left i a
-read_args {toks} {left} {i} {j} {a} d level = record { is = subst (λ (p : ℕ). IsArgs toks i p a) (sym (args_to d)) d; ends = tt; level = level }
-
-read_body : {toks : List Tok} {left i j : ℕ} {f : FuncBody} → IsFuncBody toks i j f → body_levels f ≤ left → ReadFuncBody toks left i f
-read_body {toks} {left} {i} {j} {f} d level = record { is = subst (λ (p : ℕ). IsFuncBody toks i p f) (sym (body_to d)) d; ends = tt; level = level }
-
--- what a part needs that is one level deeper
-enters : (left k : ℕ) → k + 1 ≤ left → (inner : ℕ) × (left ≡ inner + 1) × (k ≤ inner)
-enters zero k h = absurd (omega arith)
-enters (suc n) k h = (n, omega arith, omega arith)
+use Rattle.luf_parse.proofs.Ends.{read_expr, read_operand, read_simple, read_args, read_body, enters, moved, paren_to, head_to, variable_to, call_to, prefix_to, simple_to, operand_to, expr_to, args_to, body_to}
+use Rattle.luf_parse.proofs.Following.{not_at, token_closes, field_ends_expr, binary_ends_operand, closed_suffix}
 
 -- operands
 
@@ -96,12 +61,25 @@ power_form {toks} {left} {i} {next} {tok} t u e h = form _ e h.is h.ends h.level
     form : (j : ℕ) (e : Expr) → IsOperand toks i j e → EndsOperand toks j → expr_levels e ≤ left → ReadPower toks left i e
     form j _ (g.unary_operand t2 u2 d) ends level = let a = ap unary_at t.there in let b = ap unary_at t2.there in absurd cc
     form j _ (g.power_operand {j = k} {base = base} {exponent = exponent} d c x) ends level =
-        record { part = base; first = read_simple d (ap continues_prefix c.there) (omega (arith, lv.power_levels i j base k exponent)); rest = record
-        { power = λ next n. subst (λ (p : ℕ). ReadExponent toks left i base p (expression i j (expr.Power base k exponent))) (same_end (moved (simple_to d) c) n)
-            (let enter = enters left (expr_levels exponent) (omega (arith, lv.power_levels i j base k exponent)) in
-            record { part = enter.0; first = enter.1; rest = record { part = exponent; first = read_operand x ends enter.2; rest =
-                ap (λ (p : ℕ). expression i p (expr.Power base k exponent)) (sym (operand_to x)) ∙ ap (λ (p : ℕ). expression i (out-Expr exponent).to (expr.Power base p exponent)) (sym (simple_to d)) } })
-        ; none = λ other. absurd (other (moved (simple_to d) c).there) } }
+        record {
+          part = base;
+          first = read_simple d (ap continues_prefix c.there) (omega (arith, lv.power_levels i j base k exponent));
+          rest = record {
+            power = λ next n. subst (λ (p : ℕ). ReadExponent toks left i base p (expression i j (expr.Power base k exponent))) (same_end (moved (simple_to d) c) n)
+                (let enter = enters left (expr_levels exponent) (omega (arith, lv.power_levels i j base k exponent)) in
+                record {
+                  part = enter.0;
+                  first = enter.1;
+                  rest = record {
+                    part = exponent;
+                    first = read_operand x ends enter.2;
+                    rest =
+                        ap (λ (p : ℕ). expression i p (expr.Power base k exponent)) (sym (operand_to x)) ∙ ap (λ (p : ℕ). expression i (out-Expr exponent).to (expr.Power base p exponent)) (sym (simple_to d));
+                  };
+                });
+            none = λ other. absurd (other (moved (simple_to d) c).there);
+          };
+        }
     form j e (g.simple_operand d) ends level =
         record { part = e; first = read_simple d ends.suffix level; rest = record { power = λ next c. absurd (ends.power (moved (sym (simple_to d)) c).there); none = λ other. refl } }
 
@@ -259,12 +237,21 @@ fields_form {toks} {left} {i} other r h = form r.0 r.1 h.is h.ends h.level
     form : (fields : List Field) (j : ℕ) → AreFields toks i j fields → At toks j (Sign sign.RightBrace) → deepest (map field_levels fields) ≤ left → FieldsForm toks left i (fields, j)
     form _ j g.no_fields close level = absurd (other close)
     form _ j (g.last_field {f = f} d) close level =
-        record { part = (f, j); first = record { is = d; ends = ap ends_field close; level = omega (arith, level) }; rest = record
-        { more = λ next sep. absurd (separator_other sep close); last = λ none. refl } }
+        record {
+          part = (f, j);
+          first = record { is = d; ends = ap ends_field close; level = omega (arith, level) };
+          rest = record
+              { more = λ next sep. absurd (separator_other sep close); last = λ none. refl };
+        }
     form _ j (g.more_fields {j = k} {k = l} {f = f} {fields = fields} d sep rest) close level =
-        record { part = (f, k); first = record { is = d; ends = separator_ends sep; level = omega (arith, level) }; rest = record
-        { more = λ next sep2. ((fields, j), subst (λ (p : ℕ). ReadFields toks left p (fields, j)) (separator_next sep sep2) (record { is = rest; ends = close; level = omega (arith, level) }), refl)
-        ; last = λ none. absurd (none l sep) } }
+        record {
+          part = (f, k);
+          first = record { is = d; ends = separator_ends sep; level = omega (arith, level) };
+          rest = record {
+            more = λ next sep2. ((fields, j), subst (λ (p : ℕ). ReadFields toks left p (fields, j)) (separator_next sep sep2) (record { is = rest; ends = close; level = omega (arith, level) }), refl);
+            last = λ none. absurd (none l sep);
+          };
+        }
 
 pub fields_end : {toks : List Tok} {left i : ℕ} → At toks i (Sign sign.RightBrace) → (r : List Field × ℕ) → ReadFields toks left i r → r ≡ ([], i)
 fields_end {toks} {left} {i} close r h = form r.0 r.1 h.is
@@ -281,9 +268,24 @@ keyed_form {toks} {left} {i} {inside} t r h = form r.0 r.1 h.is h.ends h.level
     form _ j (g.keyed_field {k = k} {l = close} {o = from} {key = key} {value = value} t2 d c equal v) ends level =
         let enter = enters left (expr_levels key) (omega (arith, lv.keyed_levels key value)) in
         subst (λ (p : ℕ). ReadKeyed toks left p (field.Keyed key value, j)) (same_end t2 t)
-        (record { part = enter.0; first = enter.1; rest = record { part = key; first = read_expr d (token_closes c.there refl refl refl) enter.2; rest = record
-        { part = close; first = moved (expr_to d) c; rest = record { part = from; first = equal; rest = record
-        { part = value; first = read_expr v (field_ends_expr ends) (omega (arith, lv.keyed_levels key value)); rest = ap (λ (p : ℕ). (field.Keyed key value, p)) (sym (expr_to v)) } } } } })
+        (record {
+          part = enter.0;
+          first = enter.1;
+          rest = record {
+            part = key;
+            first = read_expr d (token_closes c.there refl refl refl) enter.2;
+            rest = record {
+              part = close;
+              first = moved (expr_to d) c;
+              rest = record {
+                part = from;
+                first = equal;
+                rest = record
+                    { part = value; first = read_expr v (field_ends_expr ends) (omega (arith, lv.keyed_levels key value)); rest = ap (λ (p : ℕ). (field.Keyed key value, p)) (sym (expr_to v)) };
+              };
+            };
+          };
+        })
     form _ j (g.named_field t2 _ _) ends level = let a = t.there in let b = t2.there in absurd cc
     form _ j (g.item_field d) ends level = absurd (not_at toks i starts_expr (expr_starts d) refl t.there)
 
@@ -321,12 +323,21 @@ exprs_form {toks} {left} {i} r h = form r.0 r.1 h.is h.ends h.level
   where
     form : (es : List Expr) (j : ℕ) → AreExprs toks i j es → EndsExprs toks j → deepest (map expr_levels es) ≤ left → ExprsForm toks left i (es, j)
     form _ j (g.one_expr {e = e} d) ends level =
-        record { part = e; first = read_expr d ends.expr (omega (arith, level)); rest = record
-        { more = λ next c. absurd (ends.comma (moved (sym (expr_to d)) c).there); last = λ none. ap (λ (p : ℕ). (e ∷ [], p)) (sym (expr_to d)) } }
+        record {
+          part = e;
+          first = read_expr d ends.expr (omega (arith, level));
+          rest = record
+              { more = λ next c. absurd (ends.comma (moved (sym (expr_to d)) c).there); last = λ none. ap (λ (p : ℕ). (e ∷ [], p)) (sym (expr_to d)) };
+        }
     form _ j (g.more_exprs {j = k} {k = l} {e = e} {es = es} d c rest) ends level =
-        record { part = e; first = read_expr d (token_closes c.there refl refl refl) (omega (arith, level)); rest = record
-        { more = λ next c2. ((es, j), subst (λ (p : ℕ). ReadExprs toks left p (es, j)) (same_end (moved (expr_to d) c) c2) (record { is = rest; ends = ends; level = omega (arith, level) }), refl)
-        ; last = λ none. absurd (none l (moved (expr_to d) c)) } }
+        record {
+          part = e;
+          first = read_expr d (token_closes c.there refl refl refl) (omega (arith, level));
+          rest = record {
+            more = λ next c2. ((es, j), subst (λ (p : ℕ). ReadExprs toks left p (es, j)) (same_end (moved (expr_to d) c) c2) (record { is = rest; ends = ends; level = omega (arith, level) }), refl);
+            last = λ none. absurd (none l (moved (expr_to d) c));
+          };
+        }
 
 -- prefix expressions
 
@@ -351,18 +362,25 @@ prefix_form {toks} {left} {i} p h = shaped p.shape p.expr _ h.is h.ends h.level
 
     alone_form : (j : ℕ) (s : Shape) (e : Expr) → IsHead toks i j e → IsShaped toks i j s e → j ≡ (out-Expr e).to → begins_suffix toks j ≡ false → expr_levels e ≤ left → PrefixForm toks left i (record { shape = s; expr = e })
     alone_form j s e d shape to ends level =
-        record { part = record { shape = s; expr = e }
-        ; first = record { is = subst (λ (p : ℕ). IsHead toks i p e) to d; ends = subst (λ (p : ℕ). IsShaped toks i p s e) to shape; level = level }
-        ; rest = record { alone = λ none. refl; more = λ some. let none = subst (λ (p : ℕ). begins_suffix toks p ≡ false) to ends in absurd cc } }
+        record {
+          part = record { shape = s; expr = e };
+          first = record { is = subst (λ (p : ℕ). IsHead toks i p e) to d; ends = subst (λ (p : ℕ). IsShaped toks i p s e) to shape; level = level };
+          rest = record { alone = λ none. refl; more = λ some. let none = subst (λ (p : ℕ). begins_suffix toks p ≡ false) to ends in absurd cc };
+        }
 
     suffixed : {j k : ℕ} {head : Expr} {suffixes : List Suffix} (calls : Bool) → IsHead toks i j head → AreSuffixes toks calls j k suffixes → begins_suffix toks k ≡ false → expr_levels (expression i k (expr.Suffixed head suffixes)) ≤ left
         → PrefixForm toks left i (record { shape = suffixed_shape calls; expr = expression i k (expr.Suffixed head suffixes) })
     suffixed {j} {k} {head} {suffixes} calls d rest ends level =
         let read = head_read d (omega (arith, lv.suffixed_levels i k head suffixes)) in
         let at_head = subst (λ (p : ℕ). AreSuffixes toks calls p k suffixes) (sym (head_to d)) rest in
-        record { part = record { shape = read.0; expr = head }; first = read.1; rest = record
-        { alone = λ none. let some = suffixes_begin at_head in absurd cc
-        ; more = λ some. record { part = (suffixes, calls, k); first = record { is = at_head; ends = ends; level = omega (arith, lv.suffixed_levels i k head suffixes) }; rest = refl } } }
+        record {
+          part = record { shape = read.0; expr = head };
+          first = read.1;
+          rest = record {
+            alone = λ none. let some = suffixes_begin at_head in absurd cc;
+            more = λ some. record { part = (suffixes, calls, k); first = record { is = at_head; ends = ends; level = omega (arith, lv.suffixed_levels i k head suffixes) }; rest = refl };
+          };
+        }
 
     variable : (j : ℕ) (e : Expr) → IsVariable toks i j e → begins_suffix toks j ≡ false → expr_levels e ≤ left → PrefixForm toks left i (record { shape = Variable; expr = e })
     variable j _ (g.name_variable t) ends level = alone_form j Variable (expression i j expr.Name) (g.name_head t) (g.name_variable t) refl ends level
@@ -432,8 +450,20 @@ paren_form {toks} {left} {i} e h = form _ e h.is h.level
     form : (j : ℕ) (e : Expr) → IsParen toks i j e → expr_levels e ≤ left → ParenForm toks left i e
     form j _ (g.paren {e = inside} t d c) level =
         let enter = enters left (expr_levels inside) (omega (arith, lv.paren_levels i j inside)) in
-        record { part = _; first = t; rest = record { part = enter.0; first = enter.1; rest = record { part = inside; first = read_expr d (token_closes c.there refl refl refl) enter.2; rest = record
-        { part = j; first = moved (expr_to d) c; rest = refl } } } }
+        record {
+          part = _;
+          first = t;
+          rest = record {
+            part = enter.0;
+            first = enter.1;
+            rest = record {
+              part = inside;
+              first = read_expr d (token_closes c.there refl refl refl) enter.2;
+              rest = record
+                  { part = j; first = moved (expr_to d) c; rest = refl };
+            };
+          };
+        }
 
 -- suffixes
 
@@ -449,12 +479,21 @@ suffixes_form {toks} {left} {i} r h = form r.0 r.1.0 r.1.1 h.is h.ends h.level
   where
     form : (suffixes : List Suffix) (calls : Bool) (j : ℕ) → AreSuffixes toks calls i j suffixes → begins_suffix toks j ≡ false → deepest (map suffix_levels suffixes) ≤ left → SuffixesForm toks left i (suffixes, (calls, j))
     form _ calls j (g.one_suffix {s = s} d) ends level =
-        record { part = (s, calls, j); first = record { is = d; ends = tt; level = omega (arith, level) }; rest = record
-        { more = λ next some. let begins = some.0 in absurd cc; last = λ none. refl } }
+        record {
+          part = (s, calls, j);
+          first = record { is = d; ends = tt; level = omega (arith, level) };
+          rest = record
+              { more = λ next some. let begins = some.0 in absurd cc; last = λ none. refl };
+        }
     form _ calls j (g.more_suffixes {before = before} {j = k} {s = s} {rest = others} d rest) ends level =
-        record { part = (s, before, k); first = record { is = d; ends = tt; level = omega (arith, level) }; rest = record
-        { more = λ next some. ((others, (calls, j)), subst (λ (p : ℕ). SuffixesRead toks left p (others, (calls, j))) (sym some.1) (record { is = rest; ends = ends; level = omega (arith, level) }), refl)
-        ; last = λ none. absurd (none k (suffixes_begin rest, refl)) } }
+        record {
+          part = (s, before, k);
+          first = record { is = d; ends = tt; level = omega (arith, level) };
+          rest = record {
+            more = λ next some. ((others, (calls, j)), subst (λ (p : ℕ). SuffixesRead toks left p (others, (calls, j))) (sym some.1) (record { is = rest; ends = ends; level = omega (arith, level) }), refl);
+            last = λ none. absurd (none k (suffixes_begin rest, refl));
+          };
+        }
 
 abbrev pub DotForm : List Tok → ℕ → (Suffix × Bool × ℕ) → Type 0
 DotForm toks name = Then (IsToken toks name Name) (λ to r. r ≡ (suffix.Dot name, false, to))
@@ -520,9 +559,14 @@ args_list {toks} {left} {i} {inside} t a h = form _ a h.is h.level
     form j _ (g.list_args {j = k} {es = es} t2 d c) level =
         let enter = enters left (deepest (map expr_levels es)) (omega (arith, lv.args_of_levels i j true es)) in
         subst (λ (p : ℕ). ReadListArgs toks left i p (list_args i j es)) (same_end t2 t)
-        (record { part = enter.0; first = enter.1; rest = record
-        { empty = λ to c2. absurd (not_at toks k starts_expr (exprs_start d) refl c2.there)
-        ; list = λ other. record { part = (es, _); first = record { is = d; ends = record { expr = token_closes c.there refl refl refl; comma = no_comma c }; level = enter.2 }; rest = record { part = j; first = c; rest = refl } } } })
+        (record {
+          part = enter.0;
+          first = enter.1;
+          rest = record {
+            empty = λ to c2. absurd (not_at toks k starts_expr (exprs_start d) refl c2.there);
+            list = λ other. record { part = (es, _); first = record { is = d; ends = record { expr = token_closes c.there refl refl refl; comma = no_comma c }; level = enter.2 }; rest = record { part = j; first = c; rest = refl } };
+          };
+        })
       where
         no_comma : {m n : ℕ} → IsToken toks m (Sign sign.RightParen) n → NotAt toks m (Sign sign.Comma)
         no_comma c there = let a = c.there in absurd cc
@@ -602,15 +646,25 @@ steps_form {toks} {level} {left} {i} {next} {tok} low t r h = form r.0 r.1 h.is 
     form _ j (g.one_step {e = e} t2 known d) ends levels =
         let low = ends.level in
         subst (λ (p : ℕ). StepsForm toks level left i p (roll-Step (record { sign = i; right = e }) ∷ [], j)) (same_end t2 t)
-        (record { part = e; first = read_expr d (record { level = omega arith; operand = ends.operand }) (omega (arith, levels, lv.step_of_levels i e)); rest = record
-        { more = λ n sep. let same = subst (λ (p : ℕ). level_at toks p ≡ level) (expr_to d) sep.0 in absurd (omega arith)
-        ; last = λ none. ap (λ (p : ℕ). (roll-Step (record { sign = i; right = e }) ∷ [], p)) (sym (expr_to d)) } })
+        (record {
+          part = e;
+          first = read_expr d (record { level = omega arith; operand = ends.operand }) (omega (arith, levels, lv.step_of_levels i e));
+          rest = record {
+            more = λ n sep. let same = subst (λ (p : ℕ). level_at toks p ≡ level) (expr_to d) sep.0 in absurd (omega arith);
+            last = λ none. ap (λ (p : ℕ). (roll-Step (record { sign = i; right = e }) ∷ [], p)) (sym (expr_to d));
+          };
+        })
     form _ j (g.more_steps {k = k} {e = e} {rest = others} t2 known d rest) ends levels =
         let here = steps_begin rest in
         subst (λ (p : ℕ). StepsForm toks level left i p (roll-Step (record { sign = i; right = e }) ∷ others, j)) (same_end t2 t)
-        (record { part = e; first = read_expr d (record { level = omega arith; operand = binary_ends_operand (omega arith) }) (omega (arith, levels, lv.step_of_levels i e)); rest = record
-        { more = λ n sep. ((others, j), subst (λ (p : ℕ). ReadSteps toks level left p (others, j)) (sym (expr_to d) ∙ sym sep.1) (record { is = rest; ends = ends; level = omega (arith, levels) }), refl)
-        ; last = λ none. absurd (none _ (subst (λ (p : ℕ). level_at toks p ≡ level) (sym (expr_to d)) here, refl)) } })
+        (record {
+          part = e;
+          first = read_expr d (record { level = omega arith; operand = binary_ends_operand (omega arith) }) (omega (arith, levels, lv.step_of_levels i e));
+          rest = record {
+            more = λ n sep. ((others, j), subst (λ (p : ℕ). ReadSteps toks level left p (others, j)) (sym (expr_to d) ∙ sym sep.1) (record { is = rest; ends = ends; level = omega (arith, levels) }), refl);
+            last = λ none. absurd (none _ (subst (λ (p : ℕ). level_at toks p ≡ level) (sym (expr_to d)) here, refl));
+          };
+        })
 
 -- An expression that begins with a whole one: it is that, or a chain whose first operand begins with it.
 pub data Grown (toks : List Tok) (left i : ℕ) (whole : Expr) : ℕ → Expr → Type 0 where
@@ -631,10 +685,16 @@ operand_form {toks} {least} {left} {i} e h = form least _ e h.is h.ends h.level
         let here = steps_begin rest in
         let low = ends.level in
         let inner = form (m + 1) k first d (record { level = omega arith; operand = binary_ends_operand (omega arith) }) (omega (arith, lv.chain_levels i j first steps)) in
-        record { part = inner.part; first = inner.first; rest = grown_chain some above inner.rest
-            (record { part = (steps, j)
-            ; first = record { is = subst (λ (p : ℕ). AreSteps toks m p j steps) (sym (expr_to d)) rest; ends = record { level = omega arith; operand = ends.operand }; level = omega (arith, lv.chain_levels i j first steps) }
-            ; rest = refl }) low }
+        record {
+          part = inner.part;
+          first = inner.first;
+          rest = grown_chain some above inner.rest
+              (record {
+                part = (steps, j);
+                first = record { is = subst (λ (p : ℕ). AreSteps toks m p j steps) (sym (expr_to d)) rest; ends = record { level = omega arith; operand = ends.operand }; level = omega (arith, lv.chain_levels i j first steps) };
+                rest = refl;
+              }) low;
+        }
 
 pub grown_end : {toks : List Tok} {least left i : ℕ} {whole : Expr} → level_at toks (out-Expr whole).to < least → (e : Expr) → Grown toks left i whole least e → e ≡ whole
 grown_end {toks} {least} {left} {i} {whole} low e h = ended least e h low
