@@ -10,9 +10,9 @@ use Rattle.luf_tree.specs.declared.tree.ExprKind.TheViews.{out-roll-Block, out-r
 use Rattle.luf_tree.specs.declared.tree.Args.{Args, out-Args}
 use Rattle.luf_tree.specs.Grammar as g
 use Rattle.luf_tree.specs.Grammar.{IsToken, IsExpr, IsOperand, IsSimple, IsPrefix, IsVariable, IsCall, IsParen, IsHead, IsArgs, IsFuncBody, IsBlock, IsReturn, IsStat}
-use Rattle.luf_tree.specs.Level.{expr_levels, args_levels, body_levels, block_levels}
-use Rattle.luf_parse.specs.Follow.{continues_prefix, EndsOperand, EndsExpr, EndsBlock}
-use Rattle.luf_parse.specs.Parts.{ReadExpr, ReadOperand, ReadSimple, ReadArgs, ReadFuncBody, ReadBlock}
+use Rattle.luf_tree.specs.Level.{expr_levels, args_levels, body_levels}
+use Rattle.luf_parse.specs.Follow.{continues_prefix, EndsOperand, EndsExpr}
+use Rattle.luf_parse.specs.Parts.{ReadExpr, ReadOperand, ReadSimple, ReadArgs, ReadFuncBody}
 use Rattle.luf_parse.specs.Shapes.{IsShaped}
 use Rattle.luf_parse.specs.declared.descent.Shape.{Shape}
 use Rattle.luf_parse.specs.declared.descent.Shape.TheVariants as shape
@@ -118,10 +118,6 @@ read_args {toks} {left} {i} {j} {a} d level = record { is = subst (λ (p : ℕ).
 
 pub read_body : {toks : List Tok} {left i j : ℕ} {f : FuncBody} → IsFuncBody toks i j f → body_levels f ≤ left → ReadFuncBody toks left i f
 read_body {toks} {left} {i} {j} {f} d level = record { is = subst (λ (p : ℕ). IsFuncBody toks i p f) (sym (body_to d)) d; ends = tt; level = level }
-
-pub read_block : {toks : List Tok} {left i j : ℕ} {b : Block} → IsBlock toks i j b → EndsBlock toks j → block_levels b ≤ left → ReadBlock toks left i b
-read_block {toks} {left} {i} {j} {b} d ends level =
-    record { is = subst (λ (p : ℕ). IsBlock toks i p b) (sym (block_to d)) d; ends = subst (λ (p : ℕ). EndsBlock toks p) (sym (block_to d)) ends; level = level }
 
 -- what a part needs that is one level deeper
 pub enters : (left k : ℕ) → k + 1 ≤ left → (inner : ℕ) × (left ≡ inner + 1) × (k ≤ inner)
