@@ -1,14 +1,18 @@
 -- The end that a part of the tree names is the place up to which it is derived.
-use Rattle.std.proofs.Common.{◌≡◌, ℕ, List, refl, sym, ap, subst}
+use Rattle.std.proofs.Common.{◌≡◌, ℕ, zero, suc, ◌+◌, ◌≤◌, List, false, refl, sym, ap, subst, arith}
+use Rattle.std.specs.Prelude.{slice_get}
 use Rattle.luf_lex.specs.declared.token.Tok.{Tok}
-use Rattle.luf_tree.specs.declared.tree.Block.{Block, roll-Block, out-Block}
+use Rattle.luf_tree.specs.declared.tree.Block.{Block, out-Block}
 use Rattle.luf_tree.specs.declared.tree.Stat.{Stat, out-Stat}
-use Rattle.luf_tree.specs.declared.tree.FuncBody.{FuncBody, roll-FuncBody, out-FuncBody}
+use Rattle.luf_tree.specs.declared.tree.FuncBody.{FuncBody, out-FuncBody}
 use Rattle.luf_tree.specs.declared.tree.Expr.{Expr, out-Expr}
 use Rattle.luf_tree.specs.declared.tree.ExprKind.TheViews.{out-roll-Block, out-roll-FuncBody, out-roll-Args}
-use Rattle.luf_tree.specs.declared.tree.Args.{Args, roll-Args, out-Args}
+use Rattle.luf_tree.specs.declared.tree.Args.{Args, out-Args}
 use Rattle.luf_tree.specs.Grammar as g
 use Rattle.luf_tree.specs.Grammar.{IsToken, IsExpr, IsOperand, IsSimple, IsPrefix, IsVariable, IsCall, IsParen, IsHead, IsArgs, IsFuncBody, IsBlock, IsReturn, IsStat}
+use Rattle.luf_tree.specs.Level.{expr_levels, args_levels, body_levels}
+use Rattle.luf_parse.specs.Follow.{continues_prefix, EndsOperand, EndsExpr}
+use Rattle.luf_parse.specs.Parts.{ReadExpr, ReadOperand, ReadSimple, ReadArgs, ReadFuncBody}
 use Rattle.luf_parse.specs.Shapes.{IsShaped}
 use Rattle.luf_parse.specs.declared.descent.Shape.{Shape}
 use Rattle.luf_parse.specs.declared.descent.Shape.TheVariants as shape
@@ -94,3 +98,28 @@ stat_to (g.local_function_stat _ _ _ _) = refl
 stat_to (g.label_stat _ _ _) = refl
 stat_to (g.goto_stat _ _) = refl
 stat_to (g.break_stat _) = refl
+
+-- A part at the end that it names.
+
+pub read_expr : {toks : List Tok} {n left i j : ℕ} {e : Expr} → IsExpr toks n i j e → EndsExpr toks n j → expr_levels e ≤ left → ReadExpr toks n left i e
+read_expr {toks} {n} {left} {i} {j} {e} d ends level =
+    record { is = subst (λ (p : ℕ). IsExpr toks n i p e) (sym (expr_to d)) d; ends = subst (λ (p : ℕ). EndsExpr toks n p) (sym (expr_to d)) ends; level = level }
+
+pub read_operand : {toks : List Tok} {left i j : ℕ} {e : Expr} → IsOperand toks i j e → EndsOperand toks j → expr_levels e ≤ left → ReadOperand toks left i e
+read_operand {toks} {left} {i} {j} {e} d ends level =
+    record { is = subst (λ (p : ℕ). IsOperand toks i p e) (sym (operand_to d)) d; ends = subst (λ (p : ℕ). EndsOperand toks p) (sym (operand_to d)) ends; level = level }
+
+pub read_simple : {toks : List Tok} {left i j : ℕ} {e : Expr} → IsSimple toks i j e → continues_prefix (slice_get toks j) ≡ false → expr_levels e ≤ left → ReadSimple toks left i e
+read_simple {toks} {left} {i} {j} {e} d ends level =
+    record { is = subst (λ (p : ℕ). IsSimple toks i p e) (sym (simple_to d)) d; ends = subst (λ (p : ℕ). continues_prefix (slice_get toks p) ≡ false) (sym (simple_to d)) ends; level = level }
+
+pub read_args : {toks : List Tok} {left i j : ℕ} {a : Args} → IsArgs toks i j a → args_levels a ≤ left → ReadArgs toks left i a
+read_args {toks} {left} {i} {j} {a} d level = record { is = subst (λ (p : ℕ). IsArgs toks i p a) (sym (args_to d)) d; ends = tt; level = level }
+
+pub read_body : {toks : List Tok} {left i j : ℕ} {f : FuncBody} → IsFuncBody toks i j f → body_levels f ≤ left → ReadFuncBody toks left i f
+read_body {toks} {left} {i} {j} {f} d level = record { is = subst (λ (p : ℕ). IsFuncBody toks i p f) (sym (body_to d)) d; ends = tt; level = level }
+
+-- what a part needs that is one level deeper
+pub enters : (left k : ℕ) → k + 1 ≤ left → (inner : ℕ) × (left ≡ inner + 1) × (k ≤ inner)
+enters zero k h = absurd (omega arith)
+enters (suc n) k h = (n, omega arith, omega arith)

@@ -1,76 +1,43 @@
 -- Each part of an expression that is looked for at a place, in the form in which it is read: from the token that stands
 -- there, one part after another.
-use Rattle.std.proofs.Common.{◌≡◌, ℕ, zero, suc, ◌+◌, ◌<◌, ◌≤◌, ◌⊎◌, inl, inr, Bool, true, false, Option, Some, None, List, [], ◌∷◌, length, map, max, refl, sym, ap, ◌∙◌, subst, arith}
+use Rattle.std.proofs.Common.{◌≡◌, ℕ, ◌+◌, ◌<◌, ◌≤◌, ◌⊎◌, inl, inr, Bool, true, false, Option, Some, None, List, [], ◌∷◌, length, map, refl, sym, ap, ◌∙◌, subst, arith}
 use Rattle.std.specs.Prelude.{slice_get}
-use Rattle.std.specs.Option.{option_map}
 use Rattle.luf_lex.specs.declared.token.Tok.{Tok}
-use Rattle.luf_lex.specs.declared.token.Tok.TheVariants.{Name, Number, Short, Long, Word, Sign}
-use Rattle.luf_lex.specs.declared.token.Word.{Word as Keyword}
+use Rattle.luf_lex.specs.declared.token.Tok.TheVariants.{Name, Short, Long, Word, Sign}
 use Rattle.luf_lex.specs.declared.token.Word.TheVariants as word
-use Rattle.luf_lex.specs.declared.token.Sign.{Sign as Mark}
 use Rattle.luf_lex.specs.declared.token.Sign.TheVariants as sign
-use Rattle.luf_tree.specs.declared.tree.Block.{Block, roll-Block, out-Block}
-use Rattle.luf_tree.specs.declared.tree.Stat.{Stat, out-Stat}
-use Rattle.luf_tree.specs.declared.tree.StatKind.TheVariants as stat
-use Rattle.luf_tree.specs.declared.tree.Declared.{Declared}
-use Rattle.luf_tree.specs.declared.tree.Arm.{Arm, roll-Arm}
-use Rattle.luf_tree.specs.declared.tree.FuncBody.{FuncBody, roll-FuncBody, out-FuncBody}
 use Rattle.luf_tree.specs.declared.tree.Expr.{Expr, out-Expr}
 use Rattle.luf_tree.specs.declared.tree.ExprKind.{ExprKind}
 use Rattle.luf_tree.specs.declared.tree.ExprKind.TheVariants as expr
+use Rattle.luf_tree.specs.declared.tree.ExprKind.TheViews.{out-roll-Args}
 use Rattle.luf_tree.specs.declared.tree.Step.{Step, roll-Step}
 use Rattle.luf_tree.specs.declared.tree.Suffix.{Suffix}
 use Rattle.luf_tree.specs.declared.tree.Suffix.TheVariants as suffix
 use Rattle.luf_tree.specs.declared.tree.Args.{Args, roll-Args, out-Args}
 use Rattle.luf_tree.specs.declared.tree.Field.{Field}
 use Rattle.luf_tree.specs.declared.tree.Field.TheVariants as field
-use Rattle.luf_tree.specs.Operator.{binary_level, is_unary}
-use Rattle.luf_tree.specs.Level.{deepest, expr_levels, field_levels, suffix_levels, step_levels, stat_levels, block_levels, arm_levels, args_levels, body_levels, if_there, block_if_there}
+use Rattle.luf_tree.specs.Operator.{is_unary}
+use Rattle.luf_tree.specs.Level.{deepest, expr_levels, field_levels, suffix_levels, step_levels, args_levels, body_levels}
 use Rattle.luf_tree.specs.Grammar as g
-use Rattle.luf_tree.specs.Grammar.{At, expression, statement, IsToken, IsString, AreNames, AreParams, IsAttribute, AreDeclared, IsPath, IsMethod, IsSemicolon, IsExpr, AreSteps, IsOperand, IsSimple, IsPrefix, IsVariable, IsCall, IsParen, IsHead, AreSuffixes, IsSuffix, IsArgs, AreExprs, IsTable, AreFields, IsField, IsFuncBody, IsBlock, AreStats, IsReturn, IsStat, AreTargets, IsArm, AreArms, IsElse, IsForStep}
+use Rattle.luf_tree.specs.Grammar.{At, expression, IsToken, IsString, IsExpr, AreSteps, IsOperand, IsSimple, IsPrefix, IsVariable, IsCall, IsParen, IsHead, AreSuffixes, IsSuffix, IsArgs, AreExprs, IsTable, AreFields, IsField}
 use Rattle.luf_tree.proofs.LevelEquations as lv
-use Rattle.luf_parse.specs.Exact.{Alone, Then, Enters}
-use Rattle.luf_parse.specs.Follow.{NotAt, NotAssigned, NotString, IsSeparator, continues_prefix, EndsOperand, EndsExpr, EndsExprs, ends_block, stops_stats, ends_return, EndsBlock, EndsStat, EndsArms, EndsField, ends_field}
-use Rattle.luf_parse.specs.Parts as parts
-use Rattle.luf_parse.specs.Parts.{Part, ReadExpr, ReadSteps, ReadChain, ReadOperand, ReadSimple, ReadUnary, ReadExponent, ReadPowerRest, ReadPower, ReadFuncBody, ReadFunction, ReadTable, ReadTableExpr, ReadFields, ReadField, ReadKeyed, ReadExprs, ReadPrefix, ReadHead, ReadParen, ReadSuffixes, ReadSuffix, ReadArgs, list_args, ReadListRest, ReadListArgs, ReadLoneArg}
-use Rattle.luf_parse.specs.Reads.{begins_suffix, token_begins_suffix, level_at, level_of}
+use Rattle.luf_parse.specs.Exact.{Then, Enters}
+use Rattle.luf_parse.specs.Follow.{NotAt, NotAssigned, NotString, IsSeparator, continues_prefix, EndsOperand, EndsExpr, EndsExprs, EndsField, ends_field}
+use Rattle.luf_parse.specs.Parts.{ReadExpr, ReadSteps, ReadChain, ReadOperand, ReadSimple, ReadUnary, ReadExponent, ReadPower, ReadFunction, ReadTable, ReadTableExpr, ReadFields, ReadField, ReadKeyed, ReadExprs, ReadPrefix, ReadHead, ReadParen, ReadSuffixes, ReadSuffix, ReadArgs, list_args, ReadListArgs, ReadLoneArg}
+use Rattle.luf_parse.specs.Reads.{begins_suffix, level_at}
 use Rattle.luf_parse.specs.Shapes.{IsShaped, suffixed_shape, lone_args, leaf_kind}
 use Rattle.luf_parse.specs.declared.descent.PrefixExpr.{PrefixExpr}
 use Rattle.luf_parse.specs.declared.descent.Shape.{Shape}
 use Rattle.luf_parse.specs.declared.descent.Shape.TheVariants.{Variable, Call, Paren}
 use Rattle.luf_parse.proofs.Exactness.{ListRest}
 use Rattle.std.proofs.lemmas.Option.{same_Some}
+use Rattle.std.proofs.lemmas.Bool.{cases_lt}
 use Rattle.luf_tree.proofs.TokenLaws.{expr_starts}
 use Rattle.luf_tree.specs.First.{starts_expr}
 use Rattle.luf_parse.proofs.NameForms.{same_end}
 use Rattle.luf_parse.proofs.Begins.{expr_inside, table_begins, paren_begins, prefix_begins, string_begins, unary_at, simple_begins, begins_args, args_begin, suffixes_begin, steps_begin, exprs_start, field_begins, expr_name_end}
-use Rattle.luf_parse.proofs.Ends.{moved, paren_to, head_to, variable_to, call_to, prefix_to, shaped_to, simple_to, operand_to, expr_to, args_to, body_to}
-use Rattle.luf_parse.proofs.Following.{not_at, not_at_other, is_power, closes_expr, token_closes, stat_ends_expr, field_ends_expr, binary_ends_operand, suffix_continues, closed_suffix}
-
--- A part at the end that it names.
-
-read_expr : {toks : List Tok} {n left i j : ℕ} {e : Expr} → IsExpr toks n i j e → EndsExpr toks n j → expr_levels e ≤ left → ReadExpr toks n left i e
-read_expr {toks} {n} {left} {i} {j} {e} d ends level =
-    record { is = subst (λ (p : ℕ). IsExpr toks n i p e) (sym (expr_to d)) d; ends = subst (λ (p : ℕ). EndsExpr toks n p) (sym (expr_to d)) ends; level = level }
-
-read_operand : {toks : List Tok} {left i j : ℕ} {e : Expr} → IsOperand toks i j e → EndsOperand toks j → expr_levels e ≤ left → ReadOperand toks left i e
-read_operand {toks} {left} {i} {j} {e} d ends level =
-    record { is = subst (λ (p : ℕ). IsOperand toks i p e) (sym (operand_to d)) d; ends = subst (λ (p : ℕ). EndsOperand toks p) (sym (operand_to d)) ends; level = level }
-
-read_simple : {toks : List Tok} {left i j : ℕ} {e : Expr} → IsSimple toks i j e → continues_prefix (slice_get toks j) ≡ false → expr_levels e ≤ left → ReadSimple toks left i e
-read_simple {toks} {left} {i} {j} {e} d ends level =
-    record { is = subst (λ (p : ℕ). IsSimple toks i p e) (sym (simple_to d)) d; ends = subst (λ (p : ℕ). continues_prefix (slice_get toks p) ≡ false) (sym (simple_to d)) ends; level = level }
-
-read_args : {toks : List Tok} {left i j : ℕ} {a : Args} → IsArgs toks i j a → args_levels a ≤ left → ReadArgs toks left i a
-read_args {toks} {left} {i} {j} {a} d level = record { is = subst (λ (p : ℕ). IsArgs toks i p a) (sym (args_to d)) d; ends = tt; level = level }
-
-read_body : {toks : List Tok} {left i j : ℕ} {f : FuncBody} → IsFuncBody toks i j f → body_levels f ≤ left → ReadFuncBody toks left i f
-read_body {toks} {left} {i} {j} {f} d level = record { is = subst (λ (p : ℕ). IsFuncBody toks i p f) (sym (body_to d)) d; ends = tt; level = level }
-
--- what a part needs that is one level deeper
-enters : (left k : ℕ) → k + 1 ≤ left → (inner : ℕ) × (left ≡ inner + 1) × (k ≤ inner)
-enters zero k h = absurd (omega arith)
-enters (suc n) k h = (n, omega arith, omega arith)
+use Rattle.luf_parse.proofs.Ends.{read_expr, read_operand, read_simple, read_args, read_body, enters, moved, paren_to, head_to, variable_to, call_to, prefix_to, simple_to, operand_to, expr_to, args_to, body_to}
+use Rattle.luf_parse.proofs.Following.{not_at, token_closes, field_ends_expr, binary_ends_operand, closed_suffix}
 
 -- operands
 
@@ -94,12 +61,25 @@ power_form {toks} {left} {i} {next} {tok} t u e h = form _ e h.is h.ends h.level
     form : (j : ℕ) (e : Expr) → IsOperand toks i j e → EndsOperand toks j → expr_levels e ≤ left → ReadPower toks left i e
     form j _ (g.unary_operand t2 u2 d) ends level = let a = ap unary_at t.there in let b = ap unary_at t2.there in absurd cc
     form j _ (g.power_operand {j = k} {base = base} {exponent = exponent} d c x) ends level =
-        record { part = base; first = read_simple d (ap continues_prefix c.there) (omega (arith, lv.power_levels i j base k exponent)); rest = record
-        { power = λ next n. subst (λ (p : ℕ). ReadExponent toks left i base p (expression i j (expr.Power base k exponent))) (same_end (moved (simple_to d) c) n)
-            (let enter = enters left (expr_levels exponent) (omega (arith, lv.power_levels i j base k exponent)) in
-            record { part = enter.0; first = enter.1; rest = record { part = exponent; first = read_operand x ends enter.2; rest =
-                ap (λ (p : ℕ). expression i p (expr.Power base k exponent)) (sym (operand_to x)) ∙ ap (λ (p : ℕ). expression i (out-Expr exponent).to (expr.Power base p exponent)) (sym (simple_to d)) } })
-        ; none = λ other. absurd (other (moved (simple_to d) c).there) } }
+        record {
+          part = base;
+          first = read_simple d (ap continues_prefix c.there) (omega (arith, lv.power_levels i j base k exponent));
+          rest = record {
+            power = λ next n. subst (λ (p : ℕ). ReadExponent toks left i base p (expression i j (expr.Power base k exponent))) (same_end (moved (simple_to d) c) n)
+                (let enter = enters left (expr_levels exponent) (omega (arith, lv.power_levels i j base k exponent)) in
+                record {
+                  part = enter.0;
+                  first = enter.1;
+                  rest = record {
+                    part = exponent;
+                    first = read_operand x ends enter.2;
+                    rest =
+                        ap (λ (p : ℕ). expression i p (expr.Power base k exponent)) (sym (operand_to x)) ∙ ap (λ (p : ℕ). expression i (out-Expr exponent).to (expr.Power base p exponent)) (sym (simple_to d));
+                  };
+                });
+            none = λ other. absurd (other (moved (simple_to d) c).there);
+          };
+        }
     form j e (g.simple_operand d) ends level =
         record { part = e; first = read_simple d ends.suffix level; rest = record { power = λ next c. absurd (ends.power (moved (sym (simple_to d)) c).there); none = λ other. refl } }
 
@@ -257,12 +237,21 @@ fields_form {toks} {left} {i} other r h = form r.0 r.1 h.is h.ends h.level
     form : (fields : List Field) (j : ℕ) → AreFields toks i j fields → At toks j (Sign sign.RightBrace) → deepest (map field_levels fields) ≤ left → FieldsForm toks left i (fields, j)
     form _ j g.no_fields close level = absurd (other close)
     form _ j (g.last_field {f = f} d) close level =
-        record { part = (f, j); first = record { is = d; ends = ap ends_field close; level = omega (arith, level) }; rest = record
-        { more = λ next sep. absurd (separator_other sep close); last = λ none. refl } }
+        record {
+          part = (f, j);
+          first = record { is = d; ends = ap ends_field close; level = omega (arith, level) };
+          rest = record
+              { more = λ next sep. absurd (separator_other sep close); last = λ none. refl };
+        }
     form _ j (g.more_fields {j = k} {k = l} {f = f} {fields = fields} d sep rest) close level =
-        record { part = (f, k); first = record { is = d; ends = separator_ends sep; level = omega (arith, level) }; rest = record
-        { more = λ next sep2. ((fields, j), subst (λ (p : ℕ). ReadFields toks left p (fields, j)) (separator_next sep sep2) (record { is = rest; ends = close; level = omega (arith, level) }), refl)
-        ; last = λ none. absurd (none l sep) } }
+        record {
+          part = (f, k);
+          first = record { is = d; ends = separator_ends sep; level = omega (arith, level) };
+          rest = record {
+            more = λ next sep2. ((fields, j), subst (λ (p : ℕ). ReadFields toks left p (fields, j)) (separator_next sep sep2) (record { is = rest; ends = close; level = omega (arith, level) }), refl);
+            last = λ none. absurd (none l sep);
+          };
+        }
 
 pub fields_end : {toks : List Tok} {left i : ℕ} → At toks i (Sign sign.RightBrace) → (r : List Field × ℕ) → ReadFields toks left i r → r ≡ ([], i)
 fields_end {toks} {left} {i} close r h = form r.0 r.1 h.is
@@ -279,9 +268,24 @@ keyed_form {toks} {left} {i} {inside} t r h = form r.0 r.1 h.is h.ends h.level
     form _ j (g.keyed_field {k = k} {l = close} {o = from} {key = key} {value = value} t2 d c equal v) ends level =
         let enter = enters left (expr_levels key) (omega (arith, lv.keyed_levels key value)) in
         subst (λ (p : ℕ). ReadKeyed toks left p (field.Keyed key value, j)) (same_end t2 t)
-        (record { part = enter.0; first = enter.1; rest = record { part = key; first = read_expr d (token_closes c.there refl refl refl) enter.2; rest = record
-        { part = close; first = moved (expr_to d) c; rest = record { part = from; first = equal; rest = record
-        { part = value; first = read_expr v (field_ends_expr ends) (omega (arith, lv.keyed_levels key value)); rest = ap (λ (p : ℕ). (field.Keyed key value, p)) (sym (expr_to v)) } } } } })
+        (record {
+          part = enter.0;
+          first = enter.1;
+          rest = record {
+            part = key;
+            first = read_expr d (token_closes c.there refl refl refl) enter.2;
+            rest = record {
+              part = close;
+              first = moved (expr_to d) c;
+              rest = record {
+                part = from;
+                first = equal;
+                rest = record
+                    { part = value; first = read_expr v (field_ends_expr ends) (omega (arith, lv.keyed_levels key value)); rest = ap (λ (p : ℕ). (field.Keyed key value, p)) (sym (expr_to v)) };
+              };
+            };
+          };
+        })
     form _ j (g.named_field t2 _ _) ends level = let a = t.there in let b = t2.there in absurd cc
     form _ j (g.item_field d) ends level = absurd (not_at toks i starts_expr (expr_starts d) refl t.there)
 
@@ -319,12 +323,21 @@ exprs_form {toks} {left} {i} r h = form r.0 r.1 h.is h.ends h.level
   where
     form : (es : List Expr) (j : ℕ) → AreExprs toks i j es → EndsExprs toks j → deepest (map expr_levels es) ≤ left → ExprsForm toks left i (es, j)
     form _ j (g.one_expr {e = e} d) ends level =
-        record { part = e; first = read_expr d ends.expr (omega (arith, level)); rest = record
-        { more = λ next c. absurd (ends.comma (moved (sym (expr_to d)) c).there); last = λ none. ap (λ (p : ℕ). (e ∷ [], p)) (sym (expr_to d)) } }
+        record {
+          part = e;
+          first = read_expr d ends.expr (omega (arith, level));
+          rest = record
+              { more = λ next c. absurd (ends.comma (moved (sym (expr_to d)) c).there); last = λ none. ap (λ (p : ℕ). (e ∷ [], p)) (sym (expr_to d)) };
+        }
     form _ j (g.more_exprs {j = k} {k = l} {e = e} {es = es} d c rest) ends level =
-        record { part = e; first = read_expr d (token_closes c.there refl refl refl) (omega (arith, level)); rest = record
-        { more = λ next c2. ((es, j), subst (λ (p : ℕ). ReadExprs toks left p (es, j)) (same_end (moved (expr_to d) c) c2) (record { is = rest; ends = ends; level = omega (arith, level) }), refl)
-        ; last = λ none. absurd (none l (moved (expr_to d) c)) } }
+        record {
+          part = e;
+          first = read_expr d (token_closes c.there refl refl refl) (omega (arith, level));
+          rest = record {
+            more = λ next c2. ((es, j), subst (λ (p : ℕ). ReadExprs toks left p (es, j)) (same_end (moved (expr_to d) c) c2) (record { is = rest; ends = ends; level = omega (arith, level) }), refl);
+            last = λ none. absurd (none l (moved (expr_to d) c));
+          };
+        }
 
 -- prefix expressions
 
@@ -349,18 +362,25 @@ prefix_form {toks} {left} {i} p h = shaped p.shape p.expr _ h.is h.ends h.level
 
     alone_form : (j : ℕ) (s : Shape) (e : Expr) → IsHead toks i j e → IsShaped toks i j s e → j ≡ (out-Expr e).to → begins_suffix toks j ≡ false → expr_levels e ≤ left → PrefixForm toks left i (record { shape = s; expr = e })
     alone_form j s e d shape to ends level =
-        record { part = record { shape = s; expr = e }
-        ; first = record { is = subst (λ (p : ℕ). IsHead toks i p e) to d; ends = subst (λ (p : ℕ). IsShaped toks i p s e) to shape; level = level }
-        ; rest = record { alone = λ none. refl; more = λ some. let none = subst (λ (p : ℕ). begins_suffix toks p ≡ false) to ends in absurd cc } }
+        record {
+          part = record { shape = s; expr = e };
+          first = record { is = subst (λ (p : ℕ). IsHead toks i p e) to d; ends = subst (λ (p : ℕ). IsShaped toks i p s e) to shape; level = level };
+          rest = record { alone = λ none. refl; more = λ some. let none = subst (λ (p : ℕ). begins_suffix toks p ≡ false) to ends in absurd cc };
+        }
 
     suffixed : {j k : ℕ} {head : Expr} {suffixes : List Suffix} (calls : Bool) → IsHead toks i j head → AreSuffixes toks calls j k suffixes → begins_suffix toks k ≡ false → expr_levels (expression i k (expr.Suffixed head suffixes)) ≤ left
         → PrefixForm toks left i (record { shape = suffixed_shape calls; expr = expression i k (expr.Suffixed head suffixes) })
     suffixed {j} {k} {head} {suffixes} calls d rest ends level =
         let read = head_read d (omega (arith, lv.suffixed_levels i k head suffixes)) in
         let at_head = subst (λ (p : ℕ). AreSuffixes toks calls p k suffixes) (sym (head_to d)) rest in
-        record { part = record { shape = read.0; expr = head }; first = read.1; rest = record
-        { alone = λ none. let some = suffixes_begin at_head in absurd cc
-        ; more = λ some. record { part = (suffixes, calls, k); first = record { is = at_head; ends = ends; level = omega (arith, lv.suffixed_levels i k head suffixes) }; rest = refl } } }
+        record {
+          part = record { shape = read.0; expr = head };
+          first = read.1;
+          rest = record {
+            alone = λ none. let some = suffixes_begin at_head in absurd cc;
+            more = λ some. record { part = (suffixes, calls, k); first = record { is = at_head; ends = ends; level = omega (arith, lv.suffixed_levels i k head suffixes) }; rest = refl };
+          };
+        }
 
     variable : (j : ℕ) (e : Expr) → IsVariable toks i j e → begins_suffix toks j ≡ false → expr_levels e ≤ left → PrefixForm toks left i (record { shape = Variable; expr = e })
     variable j _ (g.name_variable t) ends level = alone_form j Variable (expression i j expr.Name) (g.name_head t) (g.name_variable t) refl ends level
@@ -430,8 +450,20 @@ paren_form {toks} {left} {i} e h = form _ e h.is h.level
     form : (j : ℕ) (e : Expr) → IsParen toks i j e → expr_levels e ≤ left → ParenForm toks left i e
     form j _ (g.paren {e = inside} t d c) level =
         let enter = enters left (expr_levels inside) (omega (arith, lv.paren_levels i j inside)) in
-        record { part = _; first = t; rest = record { part = enter.0; first = enter.1; rest = record { part = inside; first = read_expr d (token_closes c.there refl refl refl) enter.2; rest = record
-        { part = j; first = moved (expr_to d) c; rest = refl } } } }
+        record {
+          part = _;
+          first = t;
+          rest = record {
+            part = enter.0;
+            first = enter.1;
+            rest = record {
+              part = inside;
+              first = read_expr d (token_closes c.there refl refl refl) enter.2;
+              rest = record
+                  { part = j; first = moved (expr_to d) c; rest = refl };
+            };
+          };
+        }
 
 -- suffixes
 
@@ -443,52 +475,163 @@ abbrev pub SuffixesForm : List Tok → ℕ → ℕ → List Suffix × (Bool × �
 SuffixesForm toks left i = Then (ReadSuffix toks left i) (λ s. ListRest (λ next. (begins_suffix toks s.2 ≡ true) × (next ≡ s.2)) (λ next. SuffixesRead toks left next) s.0 (s.1, s.2))
 
 pub suffixes_form : {toks : List Tok} {left i : ℕ} → (r : List Suffix × (Bool × ℕ)) → SuffixesRead toks left i r → SuffixesForm toks left i r
-suffixes_form {toks} {left} {i} r h = ?
+suffixes_form {toks} {left} {i} r h = form r.0 r.1.0 r.1.1 h.is h.ends h.level
+  where
+    form : (suffixes : List Suffix) (calls : Bool) (j : ℕ) → AreSuffixes toks calls i j suffixes → begins_suffix toks j ≡ false → deepest (map suffix_levels suffixes) ≤ left → SuffixesForm toks left i (suffixes, (calls, j))
+    form _ calls j (g.one_suffix {s = s} d) ends level =
+        record {
+          part = (s, calls, j);
+          first = record { is = d; ends = tt; level = omega (arith, level) };
+          rest = record
+              { more = λ next some. let begins = some.0 in absurd cc; last = λ none. refl };
+        }
+    form _ calls j (g.more_suffixes {before = before} {j = k} {s = s} {rest = others} d rest) ends level =
+        record {
+          part = (s, before, k);
+          first = record { is = d; ends = tt; level = omega (arith, level) };
+          rest = record {
+            more = λ next some. ((others, (calls, j)), subst (λ (p : ℕ). SuffixesRead toks left p (others, (calls, j))) (sym some.1) (record { is = rest; ends = ends; level = omega (arith, level) }), refl);
+            last = λ none. absurd (none k (suffixes_begin rest, refl));
+          };
+        }
 
 abbrev pub DotForm : List Tok → ℕ → (Suffix × Bool × ℕ) → Type 0
 DotForm toks name = Then (IsToken toks name Name) (λ to r. r ≡ (suffix.Dot name, false, to))
 
 pub dot_form : {toks : List Tok} {left i name : ℕ} → IsToken toks i (Sign sign.Dot) name → (r : Suffix × Bool × ℕ) → ReadSuffix toks left i r → DotForm toks name r
-dot_form {toks} {left} {i} {name} t r h = ?
+dot_form {toks} {left} {i} {name} t r h = form r.0 r.1 r.2 h.is
+  where
+    form : (s : Suffix) (calls : Bool) (j : ℕ) → IsSuffix toks calls i j s → DotForm toks name (s, calls, j)
+    form _ _ j (g.dot_suffix {j = k} t2 n) = subst (λ (p : ℕ). DotForm toks p (suffix.Dot k, false, j)) (same_end t2 t) (record { part = j; first = n; rest = refl })
+    form _ _ j (g.index_suffix t2 _ _) = let a = t.there in let b = t2.there in absurd cc
+    form _ _ j (g.call_suffix d) = absurd (not_at toks i begins_args (args_begin d) refl t.there)
+    form _ _ j (g.method_suffix t2 _ _) = let a = t.there in let b = t2.there in absurd cc
 
 abbrev pub IndexForm : List Tok → ℕ → ℕ → (Suffix × Bool × ℕ) → Type 0
 IndexForm toks left inside = Then (Enters left) (λ inner. Then (ReadExpr toks 1 inner inside) (λ key. Then (IsToken toks (out-Expr key).to (Sign sign.RightBracket)) (λ to r. r ≡ (suffix.Index key, false, to))))
 
 pub index_form : {toks : List Tok} {left i inside : ℕ} → IsToken toks i (Sign sign.LeftBracket) inside → (r : Suffix × Bool × ℕ) → ReadSuffix toks left i r → IndexForm toks left inside r
-index_form {toks} {left} {i} {inside} t r h = ?
+index_form {toks} {left} {i} {inside} t r h = form r.0 r.1 r.2 h.is h.level
+  where
+    form : (s : Suffix) (calls : Bool) (j : ℕ) → IsSuffix toks calls i j s → suffix_levels s ≤ left → IndexForm toks left inside (s, calls, j)
+    form _ _ j (g.index_suffix {e = key} t2 d c) level =
+        let enter = enters left (expr_levels key) (omega (arith, lv.index_levels key)) in
+        subst (λ (p : ℕ). IndexForm toks left p (suffix.Index key, false, j)) (same_end t2 t)
+        (record { part = enter.0; first = enter.1; rest = record { part = key; first = read_expr d (token_closes c.there refl refl refl) enter.2; rest = record { part = j; first = moved (expr_to d) c; rest = refl } } })
+    form _ _ j (g.dot_suffix t2 _) level = let a = t.there in let b = t2.there in absurd cc
+    form _ _ j (g.call_suffix d) level = absurd (not_at toks i begins_args (args_begin d) refl t.there)
+    form _ _ j (g.method_suffix t2 _ _) level = let a = t.there in let b = t2.there in absurd cc
 
 abbrev pub MethodForm : List Tok → ℕ → ℕ → (Suffix × Bool × ℕ) → Type 0
 MethodForm toks left name = Then (IsToken toks name Name) (λ after. Then (ReadArgs toks left after) (λ args r. r ≡ (suffix.Method name args, true, (out-Args args).to)))
 
 pub method_form : {toks : List Tok} {left i name : ℕ} → IsToken toks i (Sign sign.Colon) name → (r : Suffix × Bool × ℕ) → ReadSuffix toks left i r → MethodForm toks left name r
-method_form {toks} {left} {i} {name} t r h = ?
+method_form {toks} {left} {i} {name} t r h = form r.0 r.1 r.2 h.is h.level
+  where
+    form : (s : Suffix) (calls : Bool) (j : ℕ) → IsSuffix toks calls i j s → suffix_levels s ≤ left → MethodForm toks left name (s, calls, j)
+    form _ _ j (g.method_suffix {j = k} {args = args} t2 n d) level =
+        subst (λ (p : ℕ). MethodForm toks left p (suffix.Method k args, true, j)) (same_end t2 t)
+        (record { part = _; first = n; rest = record { part = args; first = read_args d (omega (arith, lv.method_levels k args)); rest = ap (λ (p : ℕ). (suffix.Method k args, true, p)) (sym (args_to d)) } })
+    form _ _ j (g.dot_suffix t2 _) level = let a = t.there in let b = t2.there in absurd cc
+    form _ _ j (g.index_suffix t2 _ _) level = let a = t.there in let b = t2.there in absurd cc
+    form _ _ j (g.call_suffix d) level = absurd (not_at toks i begins_args (args_begin d) refl t.there)
 
 abbrev pub CallForm : List Tok → ℕ → ℕ → (Suffix × Bool × ℕ) → Type 0
 CallForm toks left i = Then (ReadArgs toks left i) (λ args r. r ≡ (suffix.Call args, true, (out-Args args).to))
 
 pub call_form : {toks : List Tok} {left i : ℕ} → NotAt toks i (Sign sign.Dot) → NotAt toks i (Sign sign.LeftBracket) → NotAt toks i (Sign sign.Colon) → (r : Suffix × Bool × ℕ) → ReadSuffix toks left i r → CallForm toks left i r
-call_form {toks} {left} {i} dot bracket colon r h = ?
+call_form {toks} {left} {i} dot bracket colon r h = form r.0 r.1 r.2 h.is h.level
+  where
+    form : (s : Suffix) (calls : Bool) (j : ℕ) → IsSuffix toks calls i j s → suffix_levels s ≤ left → CallForm toks left i (s, calls, j)
+    form _ _ j (g.call_suffix {args = args} d) level = record { part = args; first = read_args d (omega (arith, lv.call_suffix_levels args)); rest = ap (λ (p : ℕ). (suffix.Call args, true, p)) (sym (args_to d)) }
+    form _ _ j (g.dot_suffix t _) level = absurd (dot t.there)
+    form _ _ j (g.index_suffix t _ _) level = absurd (bracket t.there)
+    form _ _ j (g.method_suffix t _ _) level = absurd (colon t.there)
 
 pub args_list : {toks : List Tok} {left i inside : ℕ} → IsToken toks i (Sign sign.LeftParen) inside → (a : Args) → ReadArgs toks left i a → ReadListArgs toks left i inside a
-args_list {toks} {left} {i} {inside} t a h = ?
+args_list {toks} {left} {i} {inside} t a h = form _ a h.is h.level
+  where
+    form : (j : ℕ) (a : Args) → IsArgs toks i j a → args_levels a ≤ left → ReadListArgs toks left i inside a
+    form j _ (g.no_args {j = k} t2 c) level =
+        let enter = enters left 0 (omega (arith, lv.args_of_levels i j true [])) in
+        subst (λ (p : ℕ). ReadListArgs toks left i p (list_args i j [])) (same_end t2 t)
+        (record { part = enter.0; first = enter.1; rest = record { empty = λ to c2. ap (λ (p : ℕ). list_args i p []) (same_end c c2); list = λ other. absurd (other c.there) } })
+    form j _ (g.list_args {j = k} {es = es} t2 d c) level =
+        let enter = enters left (deepest (map expr_levels es)) (omega (arith, lv.args_of_levels i j true es)) in
+        subst (λ (p : ℕ). ReadListArgs toks left i p (list_args i j es)) (same_end t2 t)
+        (record {
+          part = enter.0;
+          first = enter.1;
+          rest = record {
+            empty = λ to c2. absurd (not_at toks k starts_expr (exprs_start d) refl c2.there);
+            list = λ other. record { part = (es, _); first = record { is = d; ends = record { expr = token_closes c.there refl refl refl; comma = no_comma c }; level = enter.2 }; rest = record { part = j; first = c; rest = refl } };
+          };
+        })
+      where
+        no_comma : {m n : ℕ} → IsToken toks m (Sign sign.RightParen) n → NotAt toks m (Sign sign.Comma)
+        no_comma c there = let a = c.there in absurd cc
+    form j _ (g.string_args d) level = absurd (not_at toks i is_string (string_begins is_string refl refl d) refl t.there)
+    form j _ (g.table_args d) level = let a = t.there in let b = table_begins d in absurd cc
 
 abbrev pub LoneForm : List Tok → ℕ → ℕ → Args → Type 0
 LoneForm toks left i = Then (ReadLoneArg toks left i) (λ e a. a ≡ lone_args i e)
 
 pub args_lone : {toks : List Tok} {left i : ℕ} → NotAt toks i (Sign sign.LeftParen) → (a : Args) → ReadArgs toks left i a → LoneForm toks left i a
-args_lone {toks} {left} {i} other a h = ?
+args_lone {toks} {left} {i} other a h = form _ a h.is h.level
+  where
+    form : (j : ℕ) (a : Args) → IsArgs toks i j a → args_levels a ≤ left → LoneForm toks left i a
+    form j _ (g.no_args t _) level = absurd (other t.there)
+    form j _ (g.list_args t _ _) level = absurd (other t.there)
+    form j _ (g.string_args d) level =
+        record { part = expression i j expr.Str; first = record { is = g.string_args d; ends = tt; level = omega (arith, lv.args_of_levels i j false (expression i j expr.Str ∷ [])) }; rest = refl }
+    form j _ (g.table_args {fields = fields} d) level =
+        record { part = expression i j (expr.Table fields); first = record { is = g.table_args d; ends = tt; level = omega (arith, lv.args_of_levels i j false (expression i j (expr.Table fields) ∷ [])) }; rest = refl }
+
+lone_item : (i j : ℕ) (x e : Expr) → roll-Args (record { from = i; to = j; parens = false; items = x ∷ [] }) ≡ lone_args i e → e ≡ x
+lone_item i j x e same =
+    let items = sym (ap (λ r. r.items) (out-roll-Args (record { from = i; to = j; parens = false; items = x ∷ [] }))) ∙ ap (λ a. (out-Args a).items) same ∙ ap (λ r. r.items) (out-roll-Args (record { from = i; to = (out-Expr e).to; parens = false; items = e ∷ [] })) in cc
+
+lone_parens : (i j : ℕ) (es : List Expr) (e : Expr) → list_args i j es ≡ lone_args i e → ⊥
+lone_parens i j es e same =
+    let parens = sym (ap (λ r. r.parens) (out-roll-Args (record { from = i; to = j; parens = true; items = es }))) ∙ ap (λ a. (out-Args a).parens) same ∙ ap (λ r. r.parens) (out-roll-Args (record { from = i; to = (out-Expr e).to; parens = false; items = e ∷ [] })) in absurd cc
+
+string_end : {toks : List Tok} {i j k : ℕ} → IsString toks i j → IsString toks i k → j ≡ k
+string_end (inl t) (inl u) = same_end t u
+string_end (inl t) (inr u) = let a = t.next in let b = u.next in omega arith
+string_end (inr t) (inl u) = let a = t.next in let b = u.next in omega arith
+string_end (inr t) (inr u) = same_end t u
 
 abbrev pub LoneStringForm : ℕ → ℕ → ℕ → Expr → Type 0
 LoneStringForm left i to = Then (Enters left) (λ inner e. e ≡ expression i to expr.Str)
 
 pub lone_string : {toks : List Tok} {left i to : ℕ} → IsString toks i to → (e : Expr) → ReadLoneArg toks left i e → LoneStringForm left i to e
-lone_string {toks} {left} {i} {to} t e h = ?
+lone_string {toks} {left} {i} {to} t e h = form _ _ h.is refl
+  where
+    form : (j : ℕ) (a : Args) → IsArgs toks i j a → a ≡ lone_args i e → LoneStringForm left i to e
+    form j _ (g.no_args t2 _) same = absurd (not_at toks i is_string (string_begins is_string refl refl t) refl t2.there)
+    form j _ (g.list_args t2 _ _) same = absurd (not_at toks i is_string (string_begins is_string refl refl t) refl t2.there)
+    form j _ (g.string_args d) same =
+        let enter = enters left (expr_levels e) h.level in
+        record { part = enter.0; first = enter.1; rest = lone_item i j (expression i j expr.Str) e same ∙ ap (λ (p : ℕ). expression i p expr.Str) (string_end d t) }
+    form j _ (g.table_args d) same = absurd (not_at toks i is_string (string_begins is_string refl refl t) refl (table_begins d))
 
 abbrev pub LoneTableForm : List Tok → ℕ → ℕ → Expr → Type 0
 LoneTableForm toks left i = Then (IsToken toks i (Sign sign.LeftBrace)) (λ first. Then (Enters left) (λ inner. Then (ReadTable toks inner i) (λ r e. e ≡ expression i r.1 (expr.Table r.0))))
 
 pub lone_table : {toks : List Tok} {left i : ℕ} → NotString toks i → (e : Expr) → ReadLoneArg toks left i e → LoneTableForm toks left i e
-lone_table {toks} {left} {i} other e h = ?
+lone_table {toks} {left} {i} other e h = form _ _ h.is refl
+  where
+    table : (j : ℕ) (fields : List Field) → IsTable toks i j fields → e ≡ expression i j (expr.Table fields) → LoneTableForm toks left i e
+    table j fields (g.table t d c) same =
+        let level = h.level in
+        let enter = enters left (deepest (map field_levels fields) + 1) (omega (arith, ap expr_levels same, lv.table_levels i j fields)) in
+        record { part = _; first = t; rest = record { part = enter.0; first = enter.1; rest = record { part = (fields, j); first = record { is = g.table t d c; ends = tt; level = enter.2 }; rest = same } } }
+
+    form : (j : ℕ) (a : Args) → IsArgs toks i j a → a ≡ lone_args i e → LoneTableForm toks left i e
+    form j _ (g.no_args _ _) same = absurd (lone_parens i j [] e same)
+    form j _ (g.list_args {es = es} _ _ _) same = absurd (lone_parens i j es e same)
+    form j _ (g.string_args d) same = absurd (other j d)
+    form j _ (g.table_args {fields = fields} d) same = table j fields d (lone_item i j (expression i j (expr.Table fields)) e same)
 
 -- binary operators
 
@@ -497,24 +640,86 @@ abbrev pub StepsForm : List Tok → ℕ → ℕ → ℕ → ℕ → (List Step �
 StepsForm toks level left i next = Then (ReadExpr toks (level + 1) left next) (λ e. ListRest (λ n. (level_at toks (out-Expr e).to ≡ level) × (n ≡ (out-Expr e).to)) (λ n. ReadSteps toks level left n) (roll-Step (record { sign = i; right = e })) (out-Expr e).to)
 
 pub steps_form : {toks : List Tok} {level left i next : ℕ} {tok : Tok} → 0 < level → IsToken toks i tok next → (r : List Step × ℕ) → ReadSteps toks level left i r → StepsForm toks level left i next r
-steps_form {toks} {level} {left} {i} {next} {tok} low t r h = ?
+steps_form {toks} {level} {left} {i} {next} {tok} low t r h = form r.0 r.1 h.is h.ends h.level
+  where
+    form : (steps : List Step) (j : ℕ) → AreSteps toks level i j steps → EndsExpr toks level j → deepest (map step_levels steps) ≤ left → StepsForm toks level left i next (steps, j)
+    form _ j (g.one_step {e = e} t2 known d) ends levels =
+        let low = ends.level in
+        subst (λ (p : ℕ). StepsForm toks level left i p (roll-Step (record { sign = i; right = e }) ∷ [], j)) (same_end t2 t)
+        (record {
+          part = e;
+          first = read_expr d (record { level = omega arith; operand = ends.operand }) (omega (arith, levels, lv.step_of_levels i e));
+          rest = record {
+            more = λ n sep. let same = subst (λ (p : ℕ). level_at toks p ≡ level) (expr_to d) sep.0 in absurd (omega arith);
+            last = λ none. ap (λ (p : ℕ). (roll-Step (record { sign = i; right = e }) ∷ [], p)) (sym (expr_to d));
+          };
+        })
+    form _ j (g.more_steps {k = k} {e = e} {rest = others} t2 known d rest) ends levels =
+        let here = steps_begin rest in
+        subst (λ (p : ℕ). StepsForm toks level left i p (roll-Step (record { sign = i; right = e }) ∷ others, j)) (same_end t2 t)
+        (record {
+          part = e;
+          first = read_expr d (record { level = omega arith; operand = binary_ends_operand (omega arith) }) (omega (arith, levels, lv.step_of_levels i e));
+          rest = record {
+            more = λ n sep. ((others, j), subst (λ (p : ℕ). ReadSteps toks level left p (others, j)) (sym (expr_to d) ∙ sym sep.1) (record { is = rest; ends = ends; level = omega (arith, levels) }), refl);
+            last = λ none. absurd (none _ (subst (λ (p : ℕ). level_at toks p ≡ level) (sym (expr_to d)) here, refl));
+          };
+        })
 
 -- An expression that begins with a whole one: it is that, or a chain whose first operand begins with it.
 pub data Grown (toks : List Tok) (left i : ℕ) (whole : Expr) : ℕ → Expr → Type 0 where
   grown_whole : {least : ℕ} → level_at toks (out-Expr whole).to < least → Grown toks left i whole least whole
-  grown_chain : {least level : ℕ} {first e : Expr} → 0 < level → least ≤ level → Grown toks left i whole (level + 1) first → ReadChain toks level left i first e → Grown toks left i whole least e
+  -- CHANGED: no chain of a level from the least on goes on behind the chain
+  grown_chain : {least level : ℕ} {first e : Expr} → 0 < level → least ≤ level → Grown toks left i whole (level + 1) first → ReadChain toks level left i first e → level_at toks (out-Expr e).to < least → Grown toks left i whole least e
 
 abbrev pub OperandForm : List Tok → ℕ → ℕ → ℕ → Expr → Type 0
 OperandForm toks least left i = Then (ReadOperand toks left i) (λ whole e. Grown toks left i whole least e)
 
 pub operand_form : {toks : List Tok} {least left i : ℕ} → (e : Expr) → ReadExpr toks least left i e → OperandForm toks least left i e
-operand_form {toks} {least} {left} {i} e h = ?
+operand_form {toks} {least} {left} {i} e h = form least _ e h.is h.ends h.level
+  where
+    form : (n j : ℕ) (e : Expr) → IsExpr toks n i j e → EndsExpr toks n j → expr_levels e ≤ left → OperandForm toks n left i e
+    form n j e (g.operand_expr d) ends level =
+        record { part = e; first = read_operand d ends.operand level; rest = grown_whole (subst (λ (p : ℕ). level_at toks p < n) (sym (operand_to d)) ends.level) }
+    form n j _ (g.chain_expr {m = m} {j = k} {first = first} {rest = steps} some above d rest) ends level =
+        let here = steps_begin rest in
+        let low = ends.level in
+        let inner = form (m + 1) k first d (record { level = omega arith; operand = binary_ends_operand (omega arith) }) (omega (arith, lv.chain_levels i j first steps)) in
+        record {
+          part = inner.part;
+          first = inner.first;
+          rest = grown_chain some above inner.rest
+              (record {
+                part = (steps, j);
+                first = record { is = subst (λ (p : ℕ). AreSteps toks m p j steps) (sym (expr_to d)) rest; ends = record { level = omega arith; operand = ends.operand }; level = omega (arith, lv.chain_levels i j first steps) };
+                rest = refl;
+              }) low;
+        }
 
 pub grown_end : {toks : List Tok} {least left i : ℕ} {whole : Expr} → level_at toks (out-Expr whole).to < least → (e : Expr) → Grown toks left i whole least e → e ≡ whole
-grown_end {toks} {least} {left} {i} {whole} low e h = ?
+grown_end {toks} {least} {left} {i} {whole} low e h = ended least e h low
+  where
+    ended : (n : ℕ) (e : Expr) → Grown toks left i whole n e → level_at toks (out-Expr whole).to < n → e ≡ whole
+    ended n _ (grown_whole _) low = refl
+    ended n _ (grown_chain {level = m} {first = first} some above inner chain _) low =
+        let same = ended (m + 1) first inner (omega arith) in
+        let here = subst (λ (x : Expr). level_at toks (out-Expr x).to ≡ m) same (steps_begin chain.first.is) in absurd (omega arith)
 
 abbrev pub GrownForm : List Tok → ℕ → ℕ → ℕ → Expr → ℕ → Expr → Type 0
 GrownForm toks level left i whole least = Then (ReadChain toks level left i whole) (λ longer e. Grown toks left i longer least e)
 
 pub grown_form : {toks : List Tok} {least level left i : ℕ} {whole : Expr} → level_at toks (out-Expr whole).to ≡ level → least ≤ level → (e : Expr) → Grown toks left i whole least e → GrownForm toks level left i whole least e
-grown_form {toks} {least} {level} {left} {i} {whole} next low e h = ?
+grown_form {toks} {least} {level} {left} {i} {whole} next low e h = form least e h low
+  where
+    step : (n m : ℕ) (first e : Expr) → 0 < m → n ≤ m → Grown toks left i whole (m + 1) first → ReadChain toks m left i first e → level_at toks (out-Expr e).to < n
+        → (m + 1 ≤ level → GrownForm toks level left i whole (m + 1) first) → (m < level) ⊎ (level ≤ m) → GrownForm toks level left i whole n e
+    step n m first e some above inner chain ends form (inl lower) = let f = form (omega arith) in record { part = f.part; first = f.first; rest = grown_chain some above f.rest chain ends }
+    step n m first e some above inner chain ends form (inr higher) =
+        let same = grown_end (omega arith) first inner in
+        let at_whole : ReadChain toks m left i whole e = subst (λ (x : Expr). ReadChain toks m left i x e) same chain in
+        let here = steps_begin at_whole.first.is in
+        record { part = e; first = subst (λ (x : ℕ). ReadChain toks x left i whole e) (sym here ∙ next) at_whole; rest = grown_whole ends }
+
+    form : (n : ℕ) (e : Expr) → Grown toks left i whole n e → n ≤ level → GrownForm toks level left i whole n e
+    form n _ (grown_whole ends) low = absurd (omega arith)
+    form n e (grown_chain {level = m} {first = first} some above inner chain ends) low = step n m first e some above inner chain ends (λ h. form (m + 1) first inner h) (cases_lt m level)

@@ -1,5 +1,5 @@
 -- What may stand behind a part does not go on with what stands before it.
-use Rattle.std.proofs.Common.{◌≡◌, ℕ, ◌<◌, Bool, true, false, Option, Some, None, List, refl, sym, ap, ◌∙◌, subst, arith}
+use Rattle.std.proofs.Common.{◌≡◌, ℕ, ◌<◌, Bool, true, false, Option, Some, None, List, refl, ap, ◌∙◌, arith}
 use Rattle.std.specs.Prelude.{slice_get}
 use Rattle.luf_lex.specs.declared.token.Tok.{Tok}
 use Rattle.luf_lex.specs.declared.token.Tok.TheVariants as tok
@@ -7,7 +7,7 @@ use Rattle.luf_lex.specs.declared.token.Word.{Word}
 use Rattle.luf_lex.specs.declared.token.Word.TheVariants as word
 use Rattle.luf_lex.specs.declared.token.Sign.{Sign}
 use Rattle.luf_lex.specs.declared.token.Sign.TheVariants as sign
-use Rattle.luf_tree.specs.Operator.{word_level, sign_level, binary_level}
+use Rattle.luf_tree.specs.Operator.{sign_level}
 use Rattle.luf_tree.specs.Grammar.{At}
 use Rattle.luf_parse.specs.Follow.{NotAt, sign_continues, continues_prefix, EndsOperand, EndsExpr, EndsExprs, word_ends_block, ends_block, EndsBlock, word_follows_stat, sign_follows_stat, follows_stat, EndsStat, word_ends_arms, ends_arms, EndsArms, sign_ends_field, ends_field, EndsField, word_stops_stats, stops_stats}
 use Rattle.luf_parse.specs.Reads.{level_of, level_at, sign_begins_suffix, token_begins_suffix, begins_suffix}
@@ -119,7 +119,6 @@ block_stops _ h = absurd cc
 pub block_ends_stats : (toks : List Tok) (i : ℕ) → EndsBlock toks i → stops_stats (slice_get toks i) ≡ true
 block_ends_stats toks i h = block_stops (slice_get toks i) h
 
-
 -- a binary operator goes on with no operand
 sign_binary_operand : (s : Sign) → 0 < sign_level s → sign_continues s ≡ false
 sign_binary_operand sign.Dot h = absurd (omega arith)
@@ -154,7 +153,6 @@ no_suffix _ h = refl
 
 pub suffix_continues : (toks : List Tok) (i : ℕ) → begins_suffix toks i ≡ false → continues_prefix (slice_get toks i) ≡ false
 suffix_continues toks i h = no_suffix (slice_get toks i) h
-
 
 sign_suffix_other : (s : Sign) → sign_continues s ≡ false → (s ≡ sign.LeftParen → ⊥) → sign_begins_suffix s ≡ false
 sign_suffix_other sign.LeftParen h other = absurd (other refl)
