@@ -3,6 +3,7 @@ pub mod Exactness
 pub mod Ends
 pub mod Following
 pub mod Reading
+pub mod Begins
 pub mod NameForms
 pub mod ExprForms
 pub mod StatForms
