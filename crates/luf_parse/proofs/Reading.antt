@@ -17,11 +17,16 @@ use Rattle.luf_tree.specs.Level.{expr_levels, stat_levels, block_levels, body_le
 use Rattle.luf_tree.specs.Grammar as g
 use Rattle.luf_tree.specs.Grammar.{IsToken, IsExpr, IsVariable, IsFuncBody, IsBlock, AreStats, IsReturn, IsStat, AreExprs, IsSemicolon}
 use Rattle.luf_tree.proofs.TokenLaws.{expr_starts, stat_starts}
+use Rattle.luf_parse.specs.Exact.{Then}
 use Rattle.luf_parse.specs.Follow.{NotAt, EndsExpr, EndsExprs, ends_block, word_stops_stats, stops_stats, ends_return, EndsBlock, word_follows_stat, sign_follows_stat, follows_stat, EndsStat, sign_continues, continues_prefix}
 use Rattle.luf_parse.specs.Parts.{Part, ReadExpr, ReadFuncBody, ReadBlock, ReadEnded, ReadStat, ReadReturn, ReadVariable}
 use Rattle.luf_parse.specs.Reads.{begins_suffix}
 use Rattle.luf_parse.proofs.Ends.{moved, expr_to, variable_to, body_to, block_to, return_to, stat_to}
 use Rattle.luf_parse.proofs.Following.{block_ends_stat, stat_ends_exprs, closed_suffix}
+
+-- a part, and then the rest
+pub reads : {A B : Type 0} {First : A → Type 0} {Rest : A → B → Type 0} {whole : B} (part : A) → First part → Rest part whole → Then First Rest whole
+reads part first rest = record { part = part; first = first; rest = rest }
 
 -- parts that are derived
 
@@ -45,11 +50,7 @@ stat_read {toks} {left} {i} {j} {s} d ends level = subst (λ p. Part (IsStat tok
 
 -- a block that its first token enters, and its `end`
 pub ended_read : {toks : List Tok} {left i j k : ℕ} {b : Block} → IsBlock toks i j b → IsToken toks j (tok.Word word.End) k → block_levels b + 1 ≤ left → ReadEnded toks left i (b, k)
-ended_read {toks} {left} {i} {j} {k} {b} d t level = record {
-  part = left - 1;
-  first = omega arith;
-  rest = record { part = b; first = block_read d (ap ends_block t.there) (omega arith); rest = record { part = k; first = moved (block_to d) t; rest = refl } };
-}
+ended_read {toks} {left} {i} {j} {k} {b} d t level = reads (left - 1) (omega arith) (reads b (block_read d (ap ends_block t.there) (omega arith)) (reads k (moved (block_to d) t) refl))
 
 -- what may follow a statement
 

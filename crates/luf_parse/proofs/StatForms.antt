@@ -18,7 +18,7 @@ use Rattle.luf_tree.specs.declared.tree.FuncBody.{FuncBody, roll-FuncBody, out-F
 use Rattle.luf_tree.specs.declared.tree.Expr.{Expr, out-Expr}
 use Rattle.luf_tree.specs.Level.{deepest, expr_levels, stat_levels, block_levels, arm_levels, body_levels, if_there, block_if_there}
 use Rattle.luf_tree.specs.Grammar as g
-use Rattle.luf_tree.specs.Grammar.{At, expression, statement, IsToken, AreNames, AreDeclared, IsMethod, IsSemicolon, IsExpr, IsVariable, IsCall, IsHead, AreExprs, IsFuncBody, IsBlock, AreStats, IsReturn, IsStat, AreTargets, IsArm, AreArms, IsElse, IsForStep}
+use Rattle.luf_tree.specs.Grammar.{At, expression, statement, IsToken, IsClosed, AreNames, AreDeclared, IsPath, IsMethod, IsSemicolon, IsExpr, IsVariable, IsCall, IsHead, AreExprs, IsFuncBody, IsBlock, AreStats, IsReturn, IsStat, AreTargets, IsArm, AreArms, IsElse, IsForStep}
 use Rattle.luf_tree.proofs.LevelEquations as lv
 use Rattle.luf_parse.specs.Exact.{Alone, Then, Enters}
 use Rattle.luf_parse.specs.Follow.{NotAt, EndsExpr, ends_block, stops_stats, ends_arms, follows_stat, ends_return, EndsBlock, EndsStat, EndsArms}
@@ -29,7 +29,7 @@ use Rattle.luf_parse.proofs.Exactness.{ListRest}
 use Rattle.luf_parse.proofs.NameForms.{same_end, second_end}
 use Rattle.luf_parse.proofs.Ends.{moved, expr_to, variable_to, call_to, body_to, block_to, return_to, stat_to}
 use Rattle.luf_parse.proofs.Following.{not_at, token_closes, stat_ends_expr, stat_ends_exprs, arms_end_block, block_ends_stats}
-use Rattle.luf_parse.proofs.Reading.{expr_read, variable_read, body_read, block_read, return_read, stat_read, ended_read, stats_follow, stat_goes, values_go, semicolon_ends_return, semicolon_ends_exprs, stat_ends_prefix}
+use Rattle.luf_parse.proofs.Reading.{reads, expr_read, variable_read, body_read, block_read, return_read, stat_read, ended_read, stats_follow, stat_goes, values_go, semicolon_ends_return, semicolon_ends_exprs, stat_ends_prefix}
 
 -- functions and blocks
 
@@ -42,23 +42,9 @@ pub func_body_form : {toks : List Tok} {left i : ℕ} → (f : FuncBody) → Rea
 func_body_form {toks} {left} {i} f h = form (out-FuncBody f).to f h.is h.level
   where
     form : (j : ℕ) (f : FuncBody) → IsFuncBody toks i j f → body_levels f ≤ left → FuncBodyForm toks left i f
-    form _ _ (g.func_body {j = j} {k = k} {l = l} {p = p} {params = params} {vararg = vararg} {body = body} t ps u d v) level = record {
-      part = j;
-      first = t;
-      rest = record {
-        part = (params, vararg, k);
-        first = record { is = ps; ends = u.there; level = omega arith };
-        rest = record {
-          part = l;
-          first = u;
-          rest = record {
-            part = body;
-            first = block_read d (ap ends_block v.there) (omega (arith, lv.body_of_levels i p params vararg body));
-            rest = record { part = p; first = moved (block_to d) v; rest = refl };
-          };
-        };
-      };
-    }
+    form _ _ (g.func_body {j = j} {k = k} {l = l} {p = p} {params = params} {vararg = vararg} {body = body} t ps u d v) level =
+        reads j t (reads (params, vararg, k) (record { is = ps; ends = u.there; level = omega arith }) (reads l u (reads body (block_read d (ap ends_block v.there) (omega (arith, lv.body_of_levels i p params vararg body)))
+        (reads p (moved (block_to d) v) refl))))
 
 abbrev pub BlockForm : List Tok → ℕ → ℕ → Block → Type 0
 BlockForm toks left i = Then (ReadStats toks left i) (λ r b. b ≡ roll-Block (record { from = i; to = r.1; stats = r.0 }))
@@ -191,19 +177,9 @@ pub arm_form : {toks : List Tok} {left i : ℕ} → (r : Arm × ℕ) → ReadArm
 arm_form {toks} {left} {i} r h = form r.0 r.1 h.is h.ends h.level
   where
     form : (a : Arm) (j : ℕ) → IsArm toks i j a → EndsBlock toks j → arm_levels a ≤ left → ArmForm toks left i (a, j)
-    form _ l (g.arm {k = k} {e = e} {body = body} test t d) ends level = let levels = lv.arm_of_levels e body in record {
-      part = e;
-      first = expr_read test (token_closes t.there refl refl refl) (omega arith);
-      rest = record {
-        part = k;
-        first = moved (expr_to test) t;
-        rest = record {
-          part = left - 1;
-          first = omega arith;
-          rest = record { part = body; first = block_read d ends (omega arith); rest = ap (λ p. (roll-Arm (record { test = e; body = body }), p)) (sym (block_to d)) };
-        };
-      };
-    }
+    form _ l (g.arm {k = k} {e = e} {body = body} test t d) ends level = let levels = lv.arm_of_levels e body in
+        reads e (expr_read test (token_closes t.there refl refl refl) (omega arith)) (reads k (moved (expr_to test) t) (reads (left - 1) (omega arith)
+        (reads body (block_read d ends (omega arith)) (ap (λ p. (roll-Arm (record { test = e; body = body }), p)) (sym (block_to d))))))
 
 abbrev pub ElseForm : List Tok → ℕ → ℕ → (Option Block × ℕ) → Type 0
 ElseForm toks left inside = Then (Enters left) (λ inner. Then (ReadBlock toks inner inside) (λ body r. r ≡ (Some body, (out-Block body).to)))
@@ -290,11 +266,15 @@ StatForm toks left i next (Some (Word w)) s = WordForm toks left i next w s
 StatForm toks left i next (Some (Sign m)) s = SignForm toks left i next m s
 StatForm toks left i next _ s = ReadExprStat toks left i s
 
+-- what a statement is that begins at a place
+abbrev Formed : List Tok → ℕ → ℕ → Stat → Type 0
+Formed toks left i s = StatForm toks left i (i + 1) (slice_get toks i) s
+
 -- behind a word or a sign
-word_stat : {toks : List Tok} {i j : ℕ} {w : Keyword} (left : ℕ) (s : Stat) → IsToken toks i (Word w) j → WordForm toks left i j w s → StatForm toks left i (i + 1) (slice_get toks i) s
+word_stat : {toks : List Tok} {i j : ℕ} {w : Keyword} (left : ℕ) (s : Stat) → IsToken toks i (Word w) j → WordForm toks left i j w s → Formed toks left i s
 word_stat {toks} {i} {j} {w} left s t h = subst (λ o. StatForm toks left i (i + 1) o s) (sym t.there) (subst (λ p. WordForm toks left i p w s) t.next h)
 
-sign_stat : {toks : List Tok} {i j : ℕ} {m : Mark} (left : ℕ) (s : Stat) → IsToken toks i (Sign m) j → SignForm toks left i j m s → StatForm toks left i (i + 1) (slice_get toks i) s
+sign_stat : {toks : List Tok} {i j : ℕ} {m : Mark} (left : ℕ) (s : Stat) → IsToken toks i (Sign m) j → SignForm toks left i j m s → Formed toks left i s
 sign_stat {toks} {i} {j} {m} left s t h = subst (λ o. StatForm toks left i (i + 1) o s) (sym t.there) (subst (λ p. SignForm toks left i p m s) t.next h)
 
 -- a prefix expression begins with a name or a `(`
@@ -309,181 +289,137 @@ variable_begins : {toks : List Tok} {i j : ℕ} {e : Expr} → IsVariable toks i
 variable_begins (g.name_variable t) = inl t.there
 variable_begins (g.suffixed_variable d _) = head_begins d
 
-expr_stat : {toks : List Tok} {i : ℕ} (left : ℕ) (s : Stat) → BeginsPrefix toks i → ReadExprStat toks left i s → StatForm toks left i (i + 1) (slice_get toks i) s
+expr_stat : {toks : List Tok} {i : ℕ} (left : ℕ) (s : Stat) → BeginsPrefix toks i → ReadExprStat toks left i s → Formed toks left i s
 expr_stat {toks} {i} left s (inl t) h = subst (λ o. StatForm toks left i (i + 1) o s) (sym t) h
 expr_stat {toks} {i} left s (inr t) h = subst (λ o. StatForm toks left i (i + 1) o s) (sym t) h
 
--- the assignment to targets, the first of which is this one
+-- an assignment, with the first of its targets, which ends at p
 assign_form : {toks : List Tok} {left i j k l : ℕ} {one : Expr} {others es : List Expr} (p : ℕ) → IsVariable toks i p one → begins_suffix toks p ≡ false → AreTargets toks i j (one ∷ others) → IsToken toks j (Sign sign.Assign) k
-    → AreExprs toks k l es → EndsStat toks l → stat_levels (statement i l (stat.Assign (one ∷ others) es)) ≤ left → StatForm toks left i (i + 1) (slice_get toks i) (statement i l (stat.Assign (one ∷ others) es))
+    → AreExprs toks k l es → EndsStat toks l → stat_levels (statement i l (stat.Assign (one ∷ others) es)) ≤ left → Formed toks left i (statement i l (stat.Assign (one ∷ others) es))
 assign_form {toks} {left} {i} {j} {k} {l} {one} {others} {es} p first closed targets t values ends level = let levels = lv.assign_levels i l (one ∷ others) es in
-    expr_stat left (statement i l (stat.Assign (one ∷ others) es)) (variable_begins first) (record {
-      part = record { shape = Variable; expr = one };
-      first = variable_prefix one (variable_read first closed (omega arith));
-      rest = record {
-        part = (one ∷ others, j);
-        first = record { others = others; begins = refl; targets = record { is = targets; ends = t.there; level = omega arith } };
-        rest = record { part = k; first = t; rest = record { part = (es, l); first = record { is = values; ends = stat_ends_exprs ends; level = omega arith }; rest = refl } };
-      };
-    })
+    expr_stat left (statement i l (stat.Assign (one ∷ others) es)) (variable_begins first)
+    (reads (record { shape = Variable; expr = one }) (variable_prefix one (variable_read first closed (omega arith)))
+    (reads (one ∷ others, j) (record { others = others; begins = refl; targets = record { is = targets; ends = t.there; level = omega arith } })
+    (reads k t (reads (es, l) (record { is = values; ends = stat_ends_exprs ends; level = omega arith }) refl))))
+
+call_form : {toks : List Tok} {left i j : ℕ} {e : Expr} → IsCall toks i j e → IsClosed toks j → EndsStat toks j → stat_levels (statement i j (stat.Call e)) ≤ left → Formed toks left i (statement i j (stat.Call e))
+call_form {toks} {left} {i} {j} {e} d closed ends level = let levels = lv.call_levels i j e in
+    expr_stat left (statement i j (stat.Call e)) (begins d)
+    (reads (record { shape = Call; expr = e }) (subst (λ p. Part (IsCall toks i p e) (begins_suffix toks p ≡ false) (expr_levels e) left) (sym (call_to d)) (record { is = d; ends = stat_ends_prefix toks j ends closed; level = omega arith }))
+    (ap (λ p. statement i p (stat.Call e)) (sym (call_to d))))
+  where
+    begins : {e : Expr} → IsCall toks i j e → BeginsPrefix toks i
+    begins (g.suffixed_call head _) = head_begins head
 
 -- names that are declared begin with a name
 declared_begins : {toks : List Tok} {i j : ℕ} {declared : List Declared} → AreDeclared toks i j declared → At toks i Name
 declared_begins (g.one_declared t _) = t.there
 declared_begins (g.more_declared t _ _ _) = t.there
 
+local_form : {toks : List Tok} {i j k : ℕ} {declared : List Declared} (left : ℕ) → IsToken toks i (Word word.Local) j → AreDeclared toks j k declared → EndsStat toks k → Formed toks left i (statement i k (stat.Local declared []))
+local_form {toks} {i} {j} {k} {declared} left t d ends = word_stat left (statement i k (stat.Local declared [])) t (record {
+  function = λ name u. let here = u.there in let begins = declared_begins d in absurd cc;
+  named = λ other. reads (declared, k) (record { is = d; ends = record { comma = not_at toks k follows_stat ends refl; less = not_at toks k follows_stat ends refl }; level = omega arith })
+      (record { values = λ from u. absurd (not_at toks k follows_stat ends refl u.there); none = λ none. refl });
+})
+
+local_values_form : {toks : List Tok} {left i j k l o : ℕ} {declared : List Declared} {es : List Expr} → IsToken toks i (Word word.Local) j → AreDeclared toks j k declared → IsToken toks k (Sign sign.Assign) l → AreExprs toks l o es → EndsStat toks o
+    → stat_levels (statement i o (stat.Local declared es)) ≤ left → Formed toks left i (statement i o (stat.Local declared es))
+local_values_form {toks} {left} {i} {j} {k} {l} {o} {declared} {es} t d u values ends level = word_stat left (statement i o (stat.Local declared es)) t (record {
+  function = λ name v. let here = v.there in let begins = declared_begins d in absurd cc;
+  named = λ other. reads (declared, k) (record { is = d; ends = record { comma = λ comma. let here = u.there in absurd cc; less = λ less. let here = u.there in absurd cc }; level = omega arith }) (record {
+    values = λ from v. reads (es, o) (subst (λ p. ReadExprs toks left p (es, o)) (same_end u v) (record { is = values; ends = stat_ends_exprs ends; level = omega (arith, lv.local_levels i o declared es) })) refl;
+    none = λ none. absurd (none u.there);
+  });
+})
+
+while_form : {toks : List Tok} {left i j k l o p : ℕ} {e : Expr} {body : Block} → IsToken toks i (Word word.While) j → IsExpr toks 1 j k e → IsToken toks k (Word word.Do) l → IsBlock toks l o body → IsToken toks o (Word word.End) p
+    → stat_levels (statement i p (stat.While e body)) ≤ left → Formed toks left i (statement i p (stat.While e body))
+while_form {toks} {left} {i} {j} {k} {l} {o} {p} {e} {body} t d u b v level = let levels = lv.while_levels i p e body in
+    word_stat left (statement i p (stat.While e body)) t (reads e (expr_read d (token_closes u.there refl refl refl) (omega arith)) (reads l (moved (expr_to d) u) (reads (body, p) (ended_read b v (omega arith)) refl)))
+
+repeat_form : {toks : List Tok} {left i j k l o : ℕ} {body : Block} {e : Expr} → IsToken toks i (Word word.Repeat) j → IsBlock toks j k body → IsToken toks k (Word word.Until) l → IsExpr toks 1 l o e → EndsStat toks o
+    → stat_levels (statement i o (stat.Repeat body e)) ≤ left → Formed toks left i (statement i o (stat.Repeat body e))
+repeat_form {toks} {left} {i} {j} {k} {l} {o} {body} {e} t b u d ends level = let levels = lv.repeat_levels i o body e in
+    word_stat left (statement i o (stat.Repeat body e)) t (reads (left - 1) (omega arith) (reads body (block_read b (ap ends_block u.there) (omega arith)) (reads l (moved (block_to b) u)
+    (reads e (expr_read d (stat_ends_expr ends) (omega arith)) (ap (λ p. statement i p (stat.Repeat body e)) (sym (expr_to d)))))))
+
+if_form : {toks : List Tok} {left i j k l o : ℕ} {arms : List Arm} {last : Option Block} → IsToken toks i (Word word.If) j → AreArms toks j k arms → IsElse toks k l last → IsToken toks l (Word word.End) o
+    → stat_levels (statement i o (stat.If arms last)) ≤ left → Formed toks left i (statement i o (stat.If arms last))
+if_form {toks} {left} {i} {j} {k} {l} {o} {arms} {last} t d e u level = let levels = lv.if_levels i o arms last in
+    word_stat left (statement i o (stat.If arms last)) t (reads (arms, k) (record { is = d; ends = ends_arms_at e; level = omega arith }) (reads (last, l) (record { is = e; ends = u.there; level = omega arith }) (reads o u refl)))
+  where
+    ends_arms_at : {k : ℕ} {last : Option Block} → IsElse toks k l last → EndsArms toks k
+    ends_arms_at g.no_else = ap ends_arms u.there
+    ends_arms_at (g.an_else v _) = ap ends_arms v.there
+
+-- behind the `=` of a `for` with a count
+count_form : {toks : List Tok} {left i l m n o p q r s : ℕ} {first limit : Expr} {step : Option Expr} {body : Block} (name : ℕ) → IsExpr toks 1 l m first → IsToken toks m (Sign sign.Comma) n → IsExpr toks 1 n o limit → IsForStep toks o p step
+    → IsToken toks p (Word word.Do) q → IsBlock toks q r body → IsToken toks r (Word word.End) s → stat_levels (statement i s (stat.For name first limit step body)) ≤ left → ReadCount toks left i name l (statement i s (stat.For name first limit step body))
+count_form {toks} {left} {i} {l} {m} {n} {o} {p} {q} {r} {s} {first} {limit} {step} {body} name a t b c u d v level = let levels = lv.for_levels i s name first limit step body in
+    reads first (expr_read a (token_closes t.there refl refl refl) (omega arith)) (reads n (moved (expr_to a) t) (reads limit (expr_read b (closes c) (omega arith))
+    (reads (step, p) (subst (λ z. ReadForStep toks left z (step, p)) (sym (expr_to b)) (record { is = c; ends = u.there; level = omega arith })) (reads q u (reads (body, s) (ended_read d v (omega arith)) refl)))))
+  where
+    closes : {o : ℕ} {step : Option Expr} → IsForStep toks o p step → EndsExpr toks 1 o
+    closes g.no_for_step = token_closes u.there refl refl refl
+    closes (g.a_for_step w _) = token_closes w.there refl refl refl
+
 -- no `=` stands behind the first of several names, of which `in` stands behind the last
 names_assigned : {toks : List Tok} {i j k after from : ℕ} {names : List ℕ} → AreNames toks i j names → IsToken toks j (Word word.In) k → IsToken toks i Name after → IsToken toks after (Sign sign.Assign) from → ⊥
 names_assigned (g.one_name t) u n assign = let here = u.there in let mark = assign.there in let e = same_end t n in absurd cc
 names_assigned (g.more_names t comma _) u n assign = let here = comma.there in let mark = assign.there in let e = same_end t n in absurd cc
 
--- no `.` stands behind the path of a function's name
+for_in_form : {toks : List Tok} {left i j k l o p q r : ℕ} {names : List ℕ} {es : List Expr} {body : Block} → IsToken toks i (Word word.For) j → AreNames toks j k names → IsToken toks k (Word word.In) l → AreExprs toks l o es
+    → IsToken toks o (Word word.Do) p → IsBlock toks p q body → IsToken toks q (Word word.End) r → stat_levels (statement i r (stat.ForIn names es body)) ≤ left → Formed toks left i (statement i r (stat.ForIn names es body))
+for_in_form {toks} {left} {i} {j} {k} {l} {o} {p} {q} {r} {names} {es} {body} t d u values v b w level = let levels = lv.for_in_levels i r names es body in word_stat left (statement i r (stat.ForIn names es body)) t (record {
+  count = λ after from n z. absurd (names_assigned d u n z);
+  names = λ none. reads (names, k) (record { is = d; ends = λ comma. let here = u.there in absurd cc; level = omega arith }) (reads l u
+      (reads (es, o) (record { is = values; ends = record { expr = token_closes v.there refl refl refl; comma = λ comma. let here = v.there in absurd cc }; level = omega arith }) (reads p v (reads (body, r) (ended_read b w (omega arith)) refl))));
+})
+
 body_begins : {toks : List Tok} {i j : ℕ} {f : FuncBody} → IsFuncBody toks i j f → At toks i (Sign sign.LeftParen)
 body_begins (g.func_body t _ _ _ _) = t.there
 
+-- no `.` stands behind the path of a function's name
 method_no_dot : {toks : List Tok} {i j : ℕ} {method : Option ℕ} → IsMethod toks i j method → At toks j (Sign sign.LeftParen) → NotAt toks i (Sign sign.Dot)
 method_no_dot g.no_method paren dot = absurd cc
 method_no_dot (g.a_method t _) paren dot = let colon = t.there in absurd cc
 
-for_form : {toks : List Tok} {left i j k l m n o p q r s : ℕ} {first limit : Expr} {step : Option Expr} {body : Block} → IsToken toks j Name k
-    → IsToken toks k (Sign sign.Assign) l → IsExpr toks 1 l m first → IsToken toks m (Sign sign.Comma) n → IsExpr toks 1 n o limit → IsForStep toks o p step
-    → IsToken toks p (Word word.Do) q → IsBlock toks q r body → IsToken toks r (Word word.End) s → stat_levels (statement i s (stat.For j first limit step body)) ≤ left → ReadCount toks left i j l (statement i s (stat.For j first limit step body))
-for_form {toks} {left} {i} {j} {k} {l} {m} {n} {o} {p} {q} {r} {s} {first} {limit} {step} {body} name assign a t b c u d v level = let levels = lv.for_levels i s j first limit step body in record {
-  part = first;
-  first = expr_read a (token_closes t.there refl refl refl) (omega arith);
-  rest = record {
-    part = n;
-    first = moved (expr_to a) t;
-    rest = record {
-      part = limit;
-      first = expr_read b (step_closes c u) (omega arith);
-      rest = record {
-        part = (step, p);
-        first = subst (λ z. ReadForStep toks left z (step, p)) (sym (expr_to b)) (record { is = c; ends = u.there; level = omega arith });
-        rest = record { part = q; first = u; rest = record { part = (body, s); first = ended_read d v (omega arith); rest = refl } };
-      };
-    };
-  };
-}
-  where
-    step_closes : {o p q : ℕ} {step : Option Expr} → IsForStep toks o p step → IsToken toks p (Word word.Do) q → EndsExpr toks 1 o
-    step_closes g.no_for_step u = token_closes u.there refl refl refl
-    step_closes (g.a_for_step t _) u = token_closes t.there refl refl refl
+function_form : {toks : List Tok} {left i j k l o : ℕ} {path : List ℕ} {method : Option ℕ} {f : FuncBody} → IsToken toks i (Word word.Function) j → IsPath toks j k path → IsMethod toks k l method → IsFuncBody toks l o f
+    → stat_levels (statement i o (stat.Function path method f)) ≤ left → Formed toks left i (statement i o (stat.Function path method f))
+function_form {toks} {left} {i} {j} {k} {l} {o} {path} {method} {f} t d m b level = let levels = lv.function_stat_levels i o path method f in
+    word_stat left (statement i o (stat.Function path method f)) t (reads (left - 1) (omega arith) (reads (path, k) (record { is = d; ends = method_no_dot m (body_begins b); level = omega arith })
+    (reads (method, l) (record { is = m; ends = body_begins b; level = omega arith }) (reads f (body_read b (omega arith)) (ap (λ p. statement i p (stat.Function path method f)) (sym (body_to b)))))))
+
+local_function_form : {toks : List Tok} {left i j k l o : ℕ} {f : FuncBody} → IsToken toks i (Word word.Local) j → IsToken toks j (Word word.Function) k → IsToken toks k Name l → IsFuncBody toks l o f
+    → stat_levels (statement i o (stat.LocalFunction k f)) ≤ left → Formed toks left i (statement i o (stat.LocalFunction k f))
+local_function_form {toks} {left} {i} {j} {k} {l} {o} {f} t u n b level = let levels = lv.local_function_levels i o k f in word_stat left (statement i o (stat.LocalFunction k f)) t (record {
+  function = λ name v. subst (λ p. ReadLocalFunction toks left i p (statement i o (stat.LocalFunction k f))) (same_end u v)
+      (reads (left - 1) (omega arith) (reads l n (reads f (body_read b (omega arith)) (ap (λ p. statement i p (stat.LocalFunction k f)) (sym (body_to b))))));
+  named = λ other. absurd (other u.there);
+})
 
 pub stat_form : {toks : List Tok} {left i : ℕ} → (s : Stat) → ReadStat toks left i s → StatForm toks left i (i + 1) (slice_get toks i) s
 stat_form {toks} {left} {i} s h = form (out-Stat s).to s h.is h.ends h.level
   where
-    form : (j : ℕ) (s : Stat) → IsStat toks i j s → EndsStat toks j → stat_levels s ≤ left → StatForm toks left i (i + 1) (slice_get toks i) s
+    form : (j : ℕ) (s : Stat) → IsStat toks i j s → EndsStat toks j → stat_levels s ≤ left → Formed toks left i s
     form j _ (g.empty_stat t) ends level = sign_stat left (statement i j stat.Empty) t refl
-    form k _ (g.local_stat {j = j} {declared = declared} t d) ends level = word_stat left (statement i k (stat.Local declared [])) t (record {
-      function = λ name u. let here = u.there in let begins = declared_begins d in absurd cc;
-      named = λ other. record {
-        part = (declared, k);
-        first = record { is = d; ends = record { comma = not_at toks k follows_stat ends refl; less = not_at toks k follows_stat ends refl }; level = omega arith };
-        rest = record { values = λ from u. absurd (not_at toks k follows_stat ends refl u.there); none = λ none. refl };
-      };
-    })
-    form o _ (g.local_values_stat {j = j} {k = k} {l = l} {declared = declared} {es = es} t d u values) ends level = word_stat left (statement i o (stat.Local declared es)) t (record {
-      function = λ name v. let here = v.there in let begins = declared_begins d in absurd cc;
-      named = λ other. record {
-        part = (declared, k);
-        first = record { is = d; ends = record { comma = λ comma. let here = u.there in absurd cc; less = λ less. let here = u.there in absurd cc }; level = omega arith };
-        rest = record {
-          values = λ from v. record {
-            part = (es, o);
-            first = subst (λ p. ReadExprs toks left p (es, o)) (same_end u v) (record { is = values; ends = stat_ends_exprs ends; level = omega (arith, lv.local_levels i o declared es) });
-            rest = refl;
-          };
-          none = λ none. absurd (none u.there);
-        };
-      };
-    })
-    form l _ (g.assign_stat (g.one_target d) t values) ends level = assign_form _ d (ap token_begins_suffix t.there) (g.one_target d) t values ends level
-    form l _ (g.assign_stat (g.more_targets d u rest) t values) ends level = assign_form _ d (ap token_begins_suffix u.there) (g.more_targets d u rest) t values ends level
-    form j _ (g.call_stat {e = e} (g.suffixed_call head suffixes) closed) ends level = let d = g.suffixed_call head suffixes in let levels = lv.call_levels i j e in
-        expr_stat left (statement i j (stat.Call e)) (head_begins head) (record {
-          part = record { shape = Call; expr = e };
-          first = subst (λ p. Part (IsCall toks i p e) (begins_suffix toks p ≡ false) (expr_levels e) left) (sym (call_to d)) (record { is = d; ends = stat_ends_prefix toks j ends closed; level = omega arith });
-          rest = ap (λ p. statement i p (stat.Call e)) (sym (call_to d));
-        })
-    form l _ (g.do_stat {body = body} t d u) ends level = word_stat left (statement i l (stat.Do body)) t (record { part = (body, l); first = ended_read d u (omega (arith, lv.do_levels i l body)); rest = refl })
-    form p _ (g.while_stat {k = k} {l = l} {e = e} {body = body} t d u b v) ends level = let levels = lv.while_levels i p e body in word_stat left (statement i p (stat.While e body)) t (record {
-      part = e;
-      first = expr_read d (token_closes u.there refl refl refl) (omega arith);
-      rest = record { part = l; first = moved (expr_to d) u; rest = record { part = (body, p); first = ended_read b v (omega arith); rest = refl } };
-    })
-    form o _ (g.repeat_stat {l = l} {body = body} {e = e} t b u d) ends level = let levels = lv.repeat_levels i o body e in word_stat left (statement i o (stat.Repeat body e)) t (record {
-      part = left - 1;
-      first = omega arith;
-      rest = record {
-        part = body;
-        first = block_read b (ap ends_block u.there) (omega arith);
-        rest = record {
-          part = l;
-          first = moved (block_to b) u;
-          rest = record {
-            part = e;
-            first = expr_read d (stat_ends_expr ends) (omega arith);
-            rest = ap (λ p. statement i p (stat.Repeat body e)) (sym (expr_to d));
-          };
-        };
-      };
-    })
-    form o _ (g.if_stat {k = k} {l = l} {arms = arms} {last = last} t d e u) ends level = let levels = lv.if_levels i o arms last in word_stat left (statement i o (stat.If arms last)) t (record {
-      part = (arms, k);
-      first = record { is = d; ends = else_ends_arms e u; level = omega arith };
-      rest = record {
-        part = (last, l);
-        first = record { is = e; ends = u.there; level = omega arith };
-        rest = record { part = o; first = u; rest = refl };
-      };
-    })
-      where
-        else_ends_arms : {k l o : ℕ} {last : Option Block} → IsElse toks k l last → IsToken toks l (Word word.End) o → EndsArms toks k
-        else_ends_arms g.no_else u = ap ends_arms u.there
-        else_ends_arms (g.an_else t _) u = ap ends_arms t.there
+    form _ _ (g.local_stat t d) ends level = local_form left t d ends
+    form _ _ (g.local_values_stat t d u values) ends level = local_values_form t d u values ends level
+    form _ _ (g.assign_stat (g.one_target d) t values) ends level = assign_form _ d (ap token_begins_suffix t.there) (g.one_target d) t values ends level
+    form _ _ (g.assign_stat (g.more_targets d u rest) t values) ends level = assign_form _ d (ap token_begins_suffix u.there) (g.more_targets d u rest) t values ends level
+    form _ _ (g.call_stat d closed) ends level = call_form d closed ends level
+    form l _ (g.do_stat {body = body} t d u) ends level = word_stat left (statement i l (stat.Do body)) t (reads (body, l) (ended_read d u (omega (arith, lv.do_levels i l body))) refl)
+    form _ _ (g.while_stat t d u b v) ends level = while_form t d u b v level
+    form _ _ (g.repeat_stat t b u d) ends level = repeat_form t b u d ends level
+    form _ _ (g.if_stat t d e u) ends level = if_form t d e u level
     form s _ (g.for_stat {j = j} {first = first} {limit = limit} {step = step} {body = body} t name assign a comma b c u d v) ends level = word_stat left (statement i s (stat.For j first limit step body)) t (record {
-      count = λ after from n z. subst (λ p. ReadCount toks left i j p (statement i s (stat.For j first limit step body))) (second_end name assign n z) (for_form name assign a comma b c u d v level);
+      count = λ after from n z. subst (λ p. ReadCount toks left i j p (statement i s (stat.For j first limit step body))) (second_end name assign n z) (count_form j a comma b c u d v level);
       names = λ none. absurd (none _ _ name assign);
     })
-    form r _ (g.for_in_stat {j = j} {k = k} {l = l} {o = o} {p = p} {names = names} {es = es} {body = body} t d u values v b w) ends level = let levels = lv.for_in_levels i r names es body in word_stat left (statement i r (stat.ForIn names es body)) t (record {
-      count = λ after from n z. absurd (names_assigned d u n z);
-      names = λ none. record {
-        part = (names, k);
-        first = record { is = d; ends = λ comma. let here = u.there in absurd cc; level = omega arith };
-        rest = record {
-          part = l;
-          first = u;
-          rest = record {
-            part = (es, o);
-            first = record { is = values; ends = record { expr = token_closes v.there refl refl refl; comma = λ comma. let here = v.there in absurd cc }; level = omega arith };
-            rest = record { part = p; first = v; rest = record { part = (body, r); first = ended_read b w (omega arith); rest = refl } };
-          };
-        };
-      };
-    })
-    form o _ (g.function_stat {j = j} {k = k} {l = l} {path = path} {method = method} {f = f} t d m b) ends level = let levels = lv.function_stat_levels i o path method f in word_stat left (statement i o (stat.Function path method f)) t (record {
-      part = left - 1;
-      first = omega arith;
-      rest = record {
-        part = (path, k);
-        first = record { is = d; ends = method_no_dot m (body_begins b); level = omega arith };
-        rest = record {
-          part = (method, l);
-          first = record { is = m; ends = body_begins b; level = omega arith };
-          rest = record {
-            part = f;
-            first = body_read b (omega arith);
-            rest = ap (λ p. statement i p (stat.Function path method f)) (sym (body_to b));
-          };
-        };
-      };
-    })
-    form o _ (g.local_function_stat {j = j} {k = k} {l = l} {f = f} t u n b) ends level = let levels = lv.local_function_levels i o k f in word_stat left (statement i o (stat.LocalFunction k f)) t (record {
-      function = λ name v. subst (λ p. ReadLocalFunction toks left i p (statement i o (stat.LocalFunction k f))) (same_end u v)
-          (record { part = left - 1; first = omega arith; rest = record { part = l; first = n; rest = record { part = f; first = body_read b (omega arith); rest = ap (λ p. statement i p (stat.LocalFunction k f)) (sym (body_to b)) } } });
-      named = λ other. absurd (other u.there);
-    })
-    form l _ (g.label_stat {j = j} {k = k} t n u) ends level = sign_stat left (statement i l (stat.Label j)) t (record { part = k; first = n; rest = record { part = l; first = u; rest = refl } })
-    form k _ (g.goto_stat {j = j} t n) ends level = word_stat left (statement i k (stat.Goto j)) t (record { part = k; first = n; rest = refl })
+    form _ _ (g.for_in_stat t d u values v b w) ends level = for_in_form t d u values v b w level
+    form _ _ (g.function_stat t d m b) ends level = function_form t d m b level
+    form _ _ (g.local_function_stat t u n b) ends level = local_function_form t u n b level
+    form l _ (g.label_stat {j = j} {k = k} t n u) ends level = sign_stat left (statement i l (stat.Label j)) t (reads k n (reads l u refl))
+    form k _ (g.goto_stat {j = j} t n) ends level = word_stat left (statement i k (stat.Goto j)) t (reads k n refl)
     form j _ (g.break_stat t) ends level = word_stat left (statement i j stat.Break) t refl
