@@ -1,6 +1,6 @@
 -- How exact answers of parts make exact answers of a whole.
-use Rattle.std.proofs.Common.{◌≡◌, ℕ, ◌+◌, Bool, List, [], ◌∷◌, ◌++◌, append_assoc, append-nil, refl, sym, ap, ◌∙◌, subst, arith, Ok, Err}
-use Rattle.std.specs.Prelude.{Result, IfOk, IfErr}
+use Rattle.std.proofs.Common.{◌≡◌, ◌↔◌, ℕ, ◌+◌, Bool, true, false, List, [], ◌∷◌, ◌++◌, append_assoc, append-nil, refl, sym, ap, ◌∙◌, subst, arith, Ok, Err}
+use Rattle.std.specs.Prelude.{Result, IfOk, IfErr, IsTrue}
 use Rattle.std.specs.Result.{IsErrAnd}
 use Rattle.luf_lex.specs.declared.token.Tok.{Tok}
 use Rattle.luf_tree.specs.Grammar.{IsToken}
@@ -115,3 +115,12 @@ alone_triple {X} {S} {T} P h y p = ap (λ (r : X × (S × T)). (r.0, r.1.0, r.1.
 
 pub refutes_triple : {X S T : Type 0} (P : (X × S × T) → Type 0) {e : ParseErr} → Refutes {A = X × (S × T)} (λ r. P (r.0, r.1.0, r.1.1)) e → Refutes P e
 refutes_triple P h = refutes_by (λ y p. ((y.0, (y.1, y.2)), p)) h
+
+-- what a test answers
+pub is_at : {A : Type 0} (r : Bool) → (IsTrue r ↔ A) → r ≡ true → A
+is_at true h e = h.0 cc
+is_at false h e = absurd cc
+
+pub not_at : {A : Type 0} (r : Bool) → (IsTrue r ↔ A) → r ≡ false → A → ⊥
+not_at true h e a = cc
+not_at false h e a = let i = h.1 a in cc

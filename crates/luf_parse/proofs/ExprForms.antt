@@ -116,19 +116,19 @@ function_form {toks} {left} {i} {next} t e h = form _ e h.is h.level
     form j _ (g.table_simple d) level = let a = t.there in let b = table_begins d in absurd cc
     form j _ (g.prefix_simple d _) level = absurd (not_at toks i begins_prefix (prefix_begins begins_prefix refl refl d) refl t.there)
 
-pub table_expr_form : {toks : List Tok} {left i next : ℕ} → IsToken toks i (Sign sign.LeftBrace) next → (e : Expr) → ReadSimple toks left i e → ReadTableExpr toks left i e
-table_expr_form {toks} {left} {i} {next} t e h = form _ e h.is h.level
+pub table_expr_form : {toks : List Tok} {left i : ℕ} → At toks i (Sign sign.LeftBrace) → (e : Expr) → ReadSimple toks left i e → ReadTableExpr toks left i e
+table_expr_form {toks} {left} {i} at e h = form _ e h.is h.level
   where
     form : (j : ℕ) (e : Expr) → IsSimple toks i j e → expr_levels e ≤ left → ReadTableExpr toks left i e
     form j _ (g.table_simple {fields = fields} d) level = record { part = (fields, j); first = record { is = d; ends = tt; level = omega (arith, lv.table_levels i j fields) }; rest = refl }
-    form j _ (g.function_simple t2 d) level = let a = t.there in let b = t2.there in absurd cc
-    form j _ (g.nil_simple t2) level = let a = t.there in let b = t2.there in absurd cc
-    form j _ (g.true_simple t2) level = let a = t.there in let b = t2.there in absurd cc
-    form j _ (g.false_simple t2) level = let a = t.there in let b = t2.there in absurd cc
-    form j _ (g.number_simple t2) level = let a = t.there in let b = t2.there in absurd cc
-    form j _ (g.string_simple d) level = absurd (not_at toks i is_string (string_begins is_string refl refl d) refl t.there)
-    form j _ (g.vararg_simple t2) level = let a = t.there in let b = t2.there in absurd cc
-    form j _ (g.prefix_simple d _) level = absurd (not_at toks i begins_prefix (prefix_begins begins_prefix refl refl d) refl t.there)
+    form j _ (g.function_simple t2 d) level = let a = at in let b = t2.there in absurd cc
+    form j _ (g.nil_simple t2) level = let a = at in let b = t2.there in absurd cc
+    form j _ (g.true_simple t2) level = let a = at in let b = t2.there in absurd cc
+    form j _ (g.false_simple t2) level = let a = at in let b = t2.there in absurd cc
+    form j _ (g.number_simple t2) level = let a = at in let b = t2.there in absurd cc
+    form j _ (g.string_simple d) level = absurd (not_at toks i is_string (string_begins is_string refl refl d) refl at)
+    form j _ (g.vararg_simple t2) level = let a = at in let b = t2.there in absurd cc
+    form j _ (g.prefix_simple d _) level = absurd (not_at toks i begins_prefix (prefix_begins begins_prefix refl refl d) refl at)
 
 abbrev leaf_at : Option Tok → Option ExprKind
 leaf_at None = None
@@ -169,15 +169,12 @@ leaf_only {toks} {left} {i} {next} {tok} {kind} t k e h = form _ e h.is
 abbrev pub PrefixedForm : List Tok → ℕ → ℕ → Expr → Type 0
 PrefixedForm toks left i = Then (ReadPrefix toks left i) (λ p e. e ≡ p.expr)
 
-pub prefixed_form : {toks : List Tok} {left i next : ℕ} {tok : Tok} → IsToken toks i tok next → leaf_kind tok ≡ None → (tok ≡ Word word.Function → ⊥) → (tok ≡ Sign sign.LeftBrace → ⊥)
+pub prefixed_form : {toks : List Tok} {left i next : ℕ} {tok : Tok} → IsToken toks i tok next → leaf_kind tok ≡ None → NotAt toks i (Word word.Function) → NotAt toks i (Sign sign.LeftBrace)
     → (e : Expr) → ReadSimple toks left i e → PrefixedForm toks left i e
 prefixed_form {toks} {left} {i} {next} {tok} t k f b e h = form _ e h.is h.ends h.level
   where
     other : {u : Tok} {j : ℕ} {kind : ExprKind} {A : Type 0} → IsToken toks i u j → leaf_kind u ≡ Some kind → A
     other t2 some = no_leaf toks i t.there k t2.there some
-
-    same : {u : Tok} → At toks i u → tok ≡ u
-    same {u} there = same_Some tok u (sym t.there ∙ there)
 
     read : (j : ℕ) (e : Expr) (shape : Shape) → IsShaped toks i j shape e → j ≡ (out-Expr e).to → begins_suffix toks j ≡ false → expr_levels e ≤ left → PrefixedForm toks left i e
     read j e shape d to ends level =
@@ -196,8 +193,8 @@ prefixed_form {toks} {left} {i} {next} {tok} t k f b e h = form _ e h.is h.ends 
     form j _ (g.string_simple (inl t2)) ends level = other t2 refl
     form j _ (g.string_simple (inr t2)) ends level = other t2 refl
     form j _ (g.vararg_simple t2) ends level = other t2 refl
-    form j _ (g.function_simple t2 d) ends level = absurd (f (same t2.there))
-    form j _ (g.table_simple d) ends level = absurd (b (same (table_begins d)))
+    form j _ (g.function_simple t2 d) ends level = absurd (f t2.there)
+    form j _ (g.table_simple d) ends level = absurd (b (table_begins d))
     form j e (g.prefix_simple d closed) ends level =
         prefixed j e d (closed_suffix toks j (subst (λ (p : ℕ). continues_prefix (slice_get toks p) ≡ false) (prefix_to d) ends) closed) level
 
@@ -310,7 +307,7 @@ item_form {toks} {left} {i} bracket assigned r h = form r.0 r.1 h.is h.ends h.le
   where
     form : (f : Field) (j : ℕ) → IsField toks i j f → EndsField toks j → field_levels f ≤ left → ItemForm toks left i (f, j)
     form _ j (g.keyed_field t _ _ _ _) ends level = absurd (bracket t.there)
-    form _ j (g.named_field n t _) ends level = absurd (assigned _ _ n t)
+    form _ j (g.named_field n t _) ends level = absurd (assigned _ (record { after = _; name = n; sign = t }))
     form _ j (g.item_field {e = e} d) ends level = record { part = e; first = read_expr d (field_ends_expr ends) (omega (arith, lv.item_levels e)); rest = ap (λ (p : ℕ). (field.Item e, p)) (sym (expr_to d)) }
 
 -- lists of expressions
@@ -723,3 +720,9 @@ grown_form {toks} {least} {level} {left} {i} {whole} next low e h = form least e
     form : (n : ℕ) (e : Expr) → Grown toks left i whole n e → n ≤ level → GrownForm toks level left i whole n e
     form n _ (grown_whole ends) low = absurd (omega arith)
     form n e (grown_chain {level = m} {first = first} some above inner chain ends) low = step n m first e some above inner chain ends (λ h. form (m + 1) first inner h) (cases_lt m level)
+
+-- the same prefix expression, made with a copy of its head and with the shape that was told
+pub made_prefix : {i j : ℕ} (calls : Bool) {told : Shape} {head copy : Expr} (suffixes : List Suffix) → told ≡ suffixed_shape calls → copy ≡ head
+    → ◌≡◌ {A = PrefixExpr} (record { shape = suffixed_shape calls; expr = expression i j (expr.Suffixed head suffixes) }) (record { shape = told; expr = expression i j (expr.Suffixed copy suffixes) })
+made_prefix {i} {j} calls {told} {head} {copy} suffixes t h =
+    ap (λ (s : Shape). record { shape = s; expr = expression i j (expr.Suffixed head suffixes) }) (sym t) ∙ ap (λ (e : Expr). record { shape = told; expr = expression i j (expr.Suffixed e suffixes) }) (sym h)

@@ -372,7 +372,7 @@ names_assigned (g.more_names t comma _) u n assign = let here = comma.there in l
 for_in_form : {toks : List Tok} {left i j k l o p q r : ℕ} {names : List ℕ} {es : List Expr} {body : Block} → IsToken toks i (Word word.For) j → AreNames toks j k names → IsToken toks k (Word word.In) l → AreExprs toks l o es
     → IsToken toks o (Word word.Do) p → IsBlock toks p q body → IsToken toks q (Word word.End) r → stat_levels (statement i r (stat.ForIn names es body)) ≤ left → Formed toks left i (statement i r (stat.ForIn names es body))
 for_in_form {toks} {left} {i} {j} {k} {l} {o} {p} {q} {r} {names} {es} {body} t d u values v b w level = let levels = lv.for_in_levels i r names es body in word_stat left (statement i r (stat.ForIn names es body)) t (record {
-  count = λ after from n z. absurd (names_assigned d u n z);
+  count = λ from z. absurd (names_assigned d u z.name z.sign);
   names = λ none. reads (names, k) (record { is = d; ends = λ comma. let here = u.there in absurd cc; level = omega arith }) (reads l u
       (reads (es, o) (record { is = values; ends = record { expr = token_closes v.there refl refl refl; comma = λ comma. let here = v.there in absurd cc }; level = omega arith }) (reads p v (reads (body, r) (ended_read b w (omega arith)) refl))));
 })
@@ -414,8 +414,8 @@ stat_form {toks} {left} {i} s h = form (out-Stat s).to s h.is h.ends h.level
     form _ _ (g.repeat_stat t b u d) ends level = repeat_form t b u d ends level
     form _ _ (g.if_stat t d e u) ends level = if_form t d e u level
     form s _ (g.for_stat {j = j} {first = first} {limit = limit} {step = step} {body = body} t name assign a comma b c u d v) ends level = word_stat left (statement i s (stat.For j first limit step body)) t (record {
-      count = λ after from n z. subst (λ p. ReadCount toks left i j p (statement i s (stat.For j first limit step body))) (second_end name assign n z) (count_form j a comma b c u d v level);
-      names = λ none. absurd (none _ _ name assign);
+      count = λ from z. subst (λ p. ReadCount toks left i j p (statement i s (stat.For j first limit step body))) (second_end name assign z.name z.sign) (count_form j a comma b c u d v level);
+      names = λ none. absurd (none _ (record { after = _; name = name; sign = assign }));
     })
     form _ _ (g.for_in_stat t d u values v b w) ends level = for_in_form t d u values v b w level
     form _ _ (g.function_stat t d m b) ends level = function_form t d m b level
@@ -423,3 +423,12 @@ stat_form {toks} {left} {i} s h = form (out-Stat s).to s h.is h.ends h.level
     form l _ (g.label_stat {j = j} {k = k} t n u) ends level = sign_stat left (statement i l (stat.Label j)) t (reads k n (reads l u refl))
     form k _ (g.goto_stat {j = j} t n) ends level = word_stat left (statement i k (stat.Goto j)) t (reads k n refl)
     form j _ (g.break_stat t) ends level = word_stat left (statement i j stat.Break) t refl
+
+-- by its first token, as it was taken
+pub begins_word : {toks : List Tok} {left i next : ℕ} {w : Keyword} → IsToken toks i (Word w) next → (s : Stat) → ReadStat toks left i s → WordForm toks left i next w s
+begins_word {toks} {left} {i} {next} {w} t s h =
+    subst (λ n. WordForm toks left i n w s) (sym t.next) (subst (λ (o : Option Tok). StatForm toks left i (i + 1) o s) t.there (stat_form s h))
+
+pub begins_sign : {toks : List Tok} {left i next : ℕ} {m : Mark} → IsToken toks i (Sign m) next → (s : Stat) → ReadStat toks left i s → SignForm toks left i next m s
+begins_sign {toks} {left} {i} {next} {m} t s h =
+    subst (λ n. SignForm toks left i n m s) (sym t.next) (subst (λ (o : Option Tok). StatForm toks left i (i + 1) o s) t.there (stat_form s h))

@@ -170,13 +170,14 @@ fn simple(alloc: Global, cut: &Cut, left: u32, at: u32) -> Result<Expr, ParseErr
     let Some((tok, to)) = take(cut, at) else {
         return Err(refusal(cut, at));
     };
-    match tok {
-        Tok::Word(Word::Function) => return function(alloc, cut, left, at, to),
-        Tok::Sign(Sign::LeftBrace) => return table_expr(alloc, cut, left, at),
-        _ => {}
-    }
     if let Some(what) = leaf(tok) {
         return Ok(Expr { from: at, to, what });
+    }
+    if let Some(next) = eat(cut, at, Tok::Word(Word::Function)) {
+        return function(alloc, cut, left, at, next);
+    }
+    if cut.is_at(at, Tok::Sign(Sign::LeftBrace)) {
+        return table_expr(alloc, cut, left, at);
     }
     let found = prefix(alloc, cut, left, at)?;
     Ok(found.expr)

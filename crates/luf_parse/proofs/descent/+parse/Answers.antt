@@ -1,4 +1,4 @@
-use Rattle.std.proofs.Common.{◌≡◌, arith, ap, sym, ◌∙◌}
+use Rattle.std.proofs.Common.{◌≡◌, ℕ, false, List, [], ◌∷◌, ◌++◌, refl, arith, ap, sym, ◌∙◌}
 use Rattle.luf_lex.specs.Tokens.{toks_of}
 use Rattle.luf_tree.specs.declared.tree.Expr.{Expr, out-Expr}
 use Rattle.luf_tree.specs.declared.tree.ExprKind.TheVariants as expr
@@ -12,10 +12,19 @@ use Rattle.luf_tree.proofs.LevelEquations.{step_of_levels}
 use Rattle.luf_parse.proofs.Joining.{joins_more, joins_last, joins_end, level_more}
 use Rattle.luf_parse.proofs.ExprParts.{made_block, made_body, made_args, string_arg_found, block_found, call_found, chain_found, dot_found, func_body_found, function_found, index_found, item_found, keyed_found, list_args_found, method_found, name_found, named_found, no_args_found, operand_found, operator_at, paren_found, power_found, prefix_found, return_nothing_found, return_values_found, simple_found, suffixed_found, table_arg_found, table_expr_found, table_found, unary_found, weaken, weaken_found}
 use Rattle.luf_parse.proofs.StatParts.{arm_found, assign_found, break_found, call_shaped, do_found, else_found, empty_found, for_found, for_in_found, for_step_found, function_stat_found, if_found, local_found, local_function_found, local_values_found, repeat_found, while_found}
-use Rattle.luf_parse.proofs.Exactness.{passes, refutes_by, refutes_form, refutes_first, refutes_next, refutes_triple, alone_form, alone_next, alone_is, alone_triple, then_rest, ok_form, err_form, ahead_more, ahead_last, ahead_end, ahead_refutes, list_more, list_last, token_only}
-use Rattle.luf_parse.proofs.ExprForms.{operand_inside, unary_form, power_form, simple_inside, function_form, table_expr_form, leaf_only, prefixed_form, table_form, fields_form, fields_end, keyed_form, named_form, item_form, exprs_form, prefix_form, head_name, head_form, paren_form, suffixes_form, dot_form, index_form, method_form, call_form, args_list, args_lone, lone_string, lone_table, steps_form, operand_form, grown_end, grown_form}
-use Rattle.luf_parse.proofs.StatForms.{func_body_form, block_form, stats_form, last_form, stats_end, return_form, arms_form, arm_form, else_form, for_step_form, variable_prefix, targets_last, targets_form, stat_form}
+use Rattle.luf_parse.proofs.Exactness.{passes, refutes_by, refutes_form, refutes_first, refutes_next, refutes_triple, alone_form, alone_next, alone_is, alone_triple, then_rest, ok_form, err_form, ahead_more, ahead_last, ahead_end, ahead_refutes, is_at, not_at, list_more, list_last, token_only}
+use Rattle.luf_parse.proofs.ExprForms.{operand_inside, unary_form, power_form, simple_inside, function_form, table_expr_form, leaf_only, prefixed_form, table_form, fields_form, fields_end, keyed_form, named_form, item_form, exprs_form, prefix_form, head_name, head_form, paren_form, suffixes_form, dot_form, index_form, method_form, call_form, args_list, args_lone, lone_string, lone_table, steps_form, operand_form, grown_end, grown_form, made_prefix}
+use Rattle.luf_parse.proofs.StatForms.{begins_word, begins_sign, func_body_form, block_form, stats_form, last_form, stats_end, return_form, arms_form, arm_form, else_form, for_step_form, variable_prefix, targets_last, targets_form, stat_form}
+use Rattle.luf_parse.specs.declared.descent.PrefixExpr.{PrefixExpr}
+use Rattle.luf_parse.specs.declared.descent.Shape.TheVariants.{Variable}
+use Rattle.luf_tree.specs.declared.tree.Args.{Args, roll-Args}
 use Rattle.luf_parse.proofs.descent.+parse.Goals as goal
+use Rattle.luf_parse.proofs.descent.+parse.Goals.{stat-in_default-via-in-Some+in-Word+in_default, stat-in_default-via-in-Some+in-Sign+in_default, stat-in_default-via-in-Some+in_default, stat-in_default-via-in_default}
+
+-- a lone argument, with its list
+abbrev list_made : ℕ → ℕ → List Expr → Args
+list_made i j es = roll-Args (record { from = i; to = j; parens = false; items = es })
+
 
 pub arm-returns-clause-ok : goal.arm-returns-clause-ok
 arm-returns-clause-ok t c =
@@ -72,7 +81,7 @@ fields-fields-preserved t c =
     let h0 = c.in_ok-one.ensures in
     let h1 = c.in-Some.ensures in
     record {
-      ahead = ahead_more _ c.fields.invariant.ahead c.in_ok-push.ensures.ok (list_more (fields_form ?) h0.only h1.some);
+      ahead = ahead_more _ c.fields.invariant.ahead c.in_ok-push.ensures.ok (list_more (fields_form (not_at _ c.is_at.ensures c.if-is_at.false)) h0.only h1.some);
       joins = joins_more (AreFields (toks_of c.args.cut.now)) _ _ _ _ _ _ c.fields.invariant.joins c.in_ok-push.ensures.ok (λ k rest h. more_fields h0.ok.derived h1.some h);
       forward = omega arith;
       within = omega arith;
@@ -109,7 +118,7 @@ pub block-loop-stats-preserved : goal.block-loop-stats-preserved
 block-loop-stats-preserved t c =
     let h0 = c.in_ok-one.ensures in
     record {
-      ahead = ahead_more _ c.loop-stats.invariant.ahead c.in_ok-push.ensures.ok (λ r q. then_rest h0.only (stats_form ? r q));
+      ahead = ahead_more _ c.loop-stats.invariant.ahead c.in_ok-push.ensures.ok (λ r q. then_rest h0.only (stats_form (sym c.ends_block.ensures ∙ c.loop-stats-test.true) r q));
       joins = joins_more (AreStats (toks_of c.args.cut.now)) _ _ _ _ _ _ c.loop-stats.invariant.joins c.in_ok-push.ensures.ok (λ k rest h. more_stats h0.ok.derived h);
       forward = omega arith;
       within = omega arith;
@@ -133,7 +142,7 @@ chain-loop-next-preserved t c =
     let n = h0.token.next in
     let t : IsToken (toks_of c.args.cut.now) c.loop-next.sign c.in-Some.field-0-0 c.in-Some.next = record { there = cc h0.token.there; next = omega (arith, h0.token.next, c.in-Some.next-is) } in
     record {
-      ahead = ahead_more _ c.loop-next.invariant.ahead c.in_ok-push.ensures.ok (list_more (steps_form c.requires.low t) h1.only ?);
+      ahead = ahead_more _ c.loop-next.invariant.ahead c.in_ok-push.ensures.ok (list_more (steps_form c.requires.low t) h1.only (omega (arith, c.level_at.ensures.value), refl));
       joins = joins_more (AreSteps (toks_of c.args.cut.now) c.args.level) _ _ _ _ _ _ c.loop-next.invariant.joins c.in_ok-push.ensures.ok (λ k rest h. more_steps t (operator_at c.args.level t c.loop-next.invariant.next) h1.ok.derived h);
       next = omega (arith, c.level_at.ensures.value);
       forward = omega arith;
@@ -184,7 +193,7 @@ pub expr-levels-preserved : goal.expr-levels-preserved
 expr-levels-preserved t c =
     let h0 = c.in_ok-whole-2.ensures in
     record {
-      grown = ?;
+      grown = λ e h. then_rest h0.only (grown_form (sym c.level_at-level.ensures.value) (omega arith) e (c.levels.invariant.grown e h));
       part = weaken_found (omega (arith, h0.ends)) h0.ok;
       least = weaken c.args.least (omega arith) h0.ok.derived;
     }
@@ -203,12 +212,11 @@ field-returns-clause-ok t c =
     let h0 = c.in_ok-value-2.ensures in
     item_found h0.ok
 
-pub field-returns-in-Some-eat-2-clause-ok : goal.field-returns-in-Some-eat-2-clause-ok
-field-returns-in-Some-eat-2-clause-ok t c =
-    let h0 = c.in-Some-eat.ensures in
-    let h1 = c.in-Some-eat-2.ensures in
+pub field-returns-in-Some-assigned-clause-ok : goal.field-returns-in-Some-assigned-clause-ok
+field-returns-in-Some-assigned-clause-ok t c =
+    let h0 = c.in-Some-assigned.ensures in
     let h2 = c.in_ok-value.ensures in
-    named_found h0.token h1.token h2.ok
+    named_found h0.some.name h0.some.sign h2.ok
 
 pub for_stat-returns-clause-ok : goal.for_stat-returns-clause-ok
 for_stat-returns-clause-ok t c =
@@ -287,12 +295,12 @@ pub last-returns-clause-ok : goal.last-returns-clause-ok
 last-returns-clause-ok t c =
     let h0 = c.in_ok-next.ensures in
     let h1 = c.in_ok-values.ensures in
-    return_values_found h0.token h1.ok c.semicolon-2.ensures
+    return_values_found h0.token h1.ok c.semicolon-2.ensures.found
 
-pub last-returns-then-ends_block-clause-ok : goal.last-returns-then-ends_block-clause-ok
-last-returns-then-ends_block-clause-ok t c =
+pub last-returns-then-ends_return-clause-ok : goal.last-returns-then-ends_return-clause-ok
+last-returns-then-ends_return-clause-ok t c =
     let h0 = c.in_ok-next.ensures in
-    return_nothing_found h0.token c.semicolon.ensures c.new.ensures
+    return_nothing_found h0.token c.semicolon.ensures.found c.new.ensures
 
 pub list_args-returns-clause-ok : goal.list_args-returns-clause-ok
 list_args-returns-clause-ok t c =
@@ -424,7 +432,7 @@ pub suffixes-loop-found-preserved : goal.suffixes-loop-found-preserved
 suffixes-loop-found-preserved t c =
     let h0 = c.in_ok-one.ensures in
     record {
-      ahead = ahead_more _ c.loop-found.invariant.ahead c.in_ok-push.ensures.ok (list_more suffixes_form h0.only ?);
+      ahead = ahead_more _ c.loop-found.invariant.ahead c.in_ok-push.ensures.ok (list_more suffixes_form h0.only (cc (c.begins_suffix.ensures, c.if-not-begins_suffix.false), refl));
       joins = λ calls. joins_more (AreSuffixes (toks_of c.args.cut.now) calls) _ _ _ _ _ _ (c.loop-found.invariant.joins calls) c.in_ok-push.ensures.ok (λ k rest h. more_suffixes h0.ok.derived h);
       forward = omega arith;
       level = level_more suffix_levels _ _ _ _ c.loop-found.invariant.level c.in_ok-push.ensures.ok h0.ok.level;
@@ -501,7 +509,7 @@ pub args-returns-in-Some-clause-none : goal.args-returns-in-Some-clause-none
 args-returns-in-Some-clause-none t c = err_form _ (args_list c.in-Some.ensures.token) c.list_args.ensures.none
 
 pub args-returns-clause-only : goal.args-returns-clause-only
-args-returns-clause-only t c = alone_form (args_lone c.in_default.ensures.other) (alone_next c.in_ok-item.ensures.only ?)
+args-returns-clause-only t c = alone_form (args_lone c.in_default.ensures.other) (alone_next c.in_ok-item.ensures.only (alone_is (ap (λ es. list_made c.args.at (out-Expr c.in_ok-item.item).to es) (sym (c.in_ok-push.ensures.ok ∙ ap (λ xs. xs ++ c.in_ok-item.item ∷ []) c.new-items.ensures)))))
 
 pub arm-returns-in_err-test-clause-none : goal.arm-returns-in_err-test-clause-none
 arm-returns-in_err-test-clause-none t c = passes _ c.from_residual.ensures.1 (refutes_form arm_form (refutes_first c.in_err-test.ensures.none))
@@ -543,22 +551,22 @@ pub assign-returns-clause-only : goal.assign-returns-clause-only
 assign-returns-clause-only t c = alone_next c.in_ok-targets.ensures.only (alone_next c.in_ok-from.ensures.only (alone_next c.in_ok-values.ensures.only ((λ y h. h))))
 
 pub block-returns-in_err-one-clause-none : goal.block-returns-in_err-one-clause-none
-block-returns-in_err-one-clause-none t c = passes _ c.from_residual.ensures.1 (refutes_form block_form (refutes_first (ahead_refutes _ c.loop-stats.invariant.ahead (refutes_form (stats_form ?) (refutes_first c.in_err-one.ensures.none)))))
+block-returns-in_err-one-clause-none t c = passes _ c.from_residual.ensures.1 (refutes_form block_form (refutes_first (ahead_refutes _ c.loop-stats.invariant.ahead (refutes_form (stats_form (sym c.ends_block.ensures ∙ c.loop-stats-test.true)) (refutes_first c.in_err-one.ensures.none)))))
 
 pub block-returns-in_err-last-clause-none : goal.block-returns-in_err-last-clause-none
-block-returns-in_err-last-clause-none t c = ?
+block-returns-in_err-last-clause-none t c = passes _ c.from_residual-in_err-last.ensures.1 (refutes_form block_form (refutes_first (ahead_refutes _ c.loop-stats.invariant.ahead (refutes_form (last_form (is_at _ c.is_at.ensures c.if-is_at.true)) (refutes_first c.in_err-last.ensures.none)))))
 
 pub block-returns-then-is_at-clause-only : goal.block-returns-then-is_at-clause-only
-block-returns-then-is_at-clause-only t c = ?
+block-returns-then-is_at-clause-only t c = alone_form block_form (alone_next (ahead_last _ c.loop-stats.invariant.ahead c.in_ok-push-2.ensures.ok (λ r q. let f = last_form (is_at _ c.is_at.ensures c.if-is_at.true) r q in then_rest c.in_ok-last.ensures.only f)) (λ y h. h))
 
 pub block-returns-clause-only : goal.block-returns-clause-only
-block-returns-clause-only t c = ?
+block-returns-clause-only t c = alone_form block_form (alone_next (ahead_end c.loop-stats.invariant.ahead (stats_end {i = c.loop-stats.to} (sym c.ends_block.ensures ∙ c.loop-stats-test.false) (not_at _ c.is_at.ensures c.if-is_at.false))) (λ y h. h))
 
 pub chain-returns-in_err-right-clause-none : goal.chain-returns-in_err-right-clause-none
 chain-returns-in_err-right-clause-none t c = passes _ c.from_residual.ensures.1 (refutes_first (ahead_refutes _ c.loop-next.invariant.ahead (refutes_form (steps_form c.requires.low c.in-Some.ensures.token) (refutes_first c.in_err-right.ensures.none))))
 
 pub chain-returns-then-level_at-level-clause-only : goal.chain-returns-then-level_at-level-clause-only
-chain-returns-then-level_at-level-clause-only t c = ?
+chain-returns-then-level_at-level-clause-only t c = alone_next (ahead_last _ c.loop-next.invariant.ahead c.in_ok-push.ensures.ok (list_last (steps_form c.requires.low c.in-Some.ensures.token) c.in_ok-right.ensures.only (λ next h. let a = h.0 in omega (arith, c.level_at.ensures.value)))) (alone_is (ap (λ (b : Expr). expression c.args.at (out-Expr c.in_ok-right.right).to (expr.Chain b c.push.new.self)) (sym c.in_ok-new.ensures)))
 
 pub do_stat-returns-in_err-body-clause-none : goal.do_stat-returns-in_err-body-clause-none
 do_stat-returns-in_err-body-clause-none t c = passes _ c.from_residual.ensures.1 (refutes_first c.in_err-body.ensures.none)
@@ -582,19 +590,19 @@ pub expr-returns-in_err-whole-clause-none : goal.expr-returns-in_err-whole-claus
 expr-returns-in_err-whole-clause-none t c = passes _ c.from_residual.ensures.1 (refutes_form operand_form (refutes_first c.in_err-whole.ensures.none))
 
 pub expr-returns-then-level-least-clause-only : goal.expr-returns-then-level-least-clause-only
-expr-returns-then-level-least-clause-only t c = alone_form c.levels.invariant.grown (grown_end ?)
+expr-returns-then-level-least-clause-only t c = alone_form c.levels.invariant.grown (grown_end (omega (arith, c.level_at-level.ensures.value)))
 
 pub expr-returns-in_err-whole-2-clause-none : goal.expr-returns-in_err-whole-2-clause-none
-expr-returns-in_err-whole-2-clause-none t c = passes _ c.from_residual-in_err-whole-2.ensures.1 (refutes_form c.levels.invariant.grown (refutes_form (grown_form ? ?) (refutes_first c.in_err-whole-2.ensures.none)))
+expr-returns-in_err-whole-2-clause-none t c = passes _ c.from_residual-in_err-whole-2.ensures.1 (refutes_form c.levels.invariant.grown (refutes_form (grown_form (sym c.level_at-level.ensures.value) (omega arith)) (refutes_first c.in_err-whole-2.ensures.none)))
 
 pub fields-returns-then-is_at-clause-only : goal.fields-returns-then-is_at-clause-only
-fields-returns-then-is_at-clause-only t c = ahead_end _ c.fields.invariant.ahead (fields_end ?)
+fields-returns-then-is_at-clause-only t c = ahead_end c.fields.invariant.ahead (fields_end {i = c.fields.at} (is_at _ c.is_at.ensures c.if-is_at.true))
 
 pub fields-returns-in_err-one-clause-none : goal.fields-returns-in_err-one-clause-none
-fields-returns-in_err-one-clause-none t c = passes _ c.from_residual.ensures.1 (ahead_refutes _ c.fields.invariant.ahead (refutes_form (fields_form ?) (refutes_first c.in_err-one.ensures.none)))
+fields-returns-in_err-one-clause-none t c = passes _ c.from_residual.ensures.1 (ahead_refutes _ c.fields.invariant.ahead (refutes_form (fields_form (not_at _ c.is_at.ensures c.if-is_at.false)) (refutes_first c.in_err-one.ensures.none)))
 
 pub fields-returns-in-None-clause-only : goal.fields-returns-in-None-clause-only
-fields-returns-in-None-clause-only t c = ahead_last _ c.fields.invariant.ahead c.in_ok-push.ensures.ok (list_last (fields_form ?) c.in_ok-one.ensures.only c.in-None.ensures.none)
+fields-returns-in-None-clause-only t c = ahead_last _ c.fields.invariant.ahead c.in_ok-push.ensures.ok (list_last (fields_form (not_at _ c.is_at.ensures c.if-is_at.false)) c.in_ok-one.ensures.only c.in-None.ensures.none)
 
 pub for_step-returns-in_err-step-clause-none : goal.for_step-returns-in_err-step-clause-none
 for_step-returns-in_err-step-clause-none t c = passes _ c.from_residual.ensures.1 (refutes_form (for_step_form c.in-Some.ensures.token) (refutes_first c.in_err-step.ensures.none))
@@ -681,19 +689,19 @@ pub operand-returns-in_default-clause-none : goal.operand-returns-in_default-cla
 operand-returns-in_default-clause-none t c = record { nothing = λ known. operand_inside c.in_default.ensures.end }
 
 pub operand-returns-in_err-inner-clause-none : goal.operand-returns-in_err-inner-clause-none
-operand-returns-in_err-inner-clause-none t c = passes _ c.from_residual.ensures.1 (refutes_form (unary_form c.in-Some.ensures.token ?) (refutes_first c.in_err-inner.ensures.none))
+operand-returns-in_err-inner-clause-none t c = passes _ c.from_residual.ensures.1 (refutes_form (unary_form c.in-Some.ensures.token (cc (c.is_unary.ensures, c.if-is_unary.true))) (refutes_first c.in_err-inner.ensures.none))
 
 pub operand-returns-in_err-operand-clause-none : goal.operand-returns-in_err-operand-clause-none
-operand-returns-in_err-operand-clause-none t c = passes _ c.from_residual-in_err-operand.ensures.1 (refutes_form (unary_form c.in-Some.ensures.token ?) (refutes_next c.in_ok-inner.ensures.only (refutes_first c.in_err-operand.ensures.none)))
+operand-returns-in_err-operand-clause-none t c = passes _ c.from_residual-in_err-operand.ensures.1 (refutes_form (unary_form c.in-Some.ensures.token (cc (c.is_unary.ensures, c.if-is_unary.true))) (refutes_next c.in_ok-inner.ensures.only (refutes_first c.in_err-operand.ensures.none)))
 
 pub operand-returns-then-is_unary-clause-only : goal.operand-returns-then-is_unary-clause-only
-operand-returns-then-is_unary-clause-only t c = alone_form (unary_form c.in-Some.ensures.token ?) (alone_next c.in_ok-inner.ensures.only (alone_next c.in_ok-operand.ensures.only (alone_is (ap (λ (b : Expr). expression _ _ (expr.Unary b)) (sym c.in_ok-new.ensures)))))
+operand-returns-then-is_unary-clause-only t c = alone_form (unary_form c.in-Some.ensures.token (cc (c.is_unary.ensures, c.if-is_unary.true))) (alone_next c.in_ok-inner.ensures.only (alone_next c.in_ok-operand.ensures.only (alone_is (ap (λ (b : Expr). expression c.args.at (out-Expr c.in_ok-operand.operand).to (expr.Unary b)) (sym c.in_ok-new.ensures)))))
 
 pub operand-returns-clause-only : goal.operand-returns-clause-only
-operand-returns-clause-only t c = ok_form _ (power_form c.in-Some.ensures.token ?) c.power.ensures.only
+operand-returns-clause-only t c = ok_form _ (power_form c.in-Some.ensures.token (cc (c.is_unary.ensures, c.if-is_unary.false))) c.power.ensures.only
 
 pub operand-returns-clause-none : goal.operand-returns-clause-none
-operand-returns-clause-none t c = err_form _ (power_form c.in-Some.ensures.token ?) c.power.ensures.none
+operand-returns-clause-none t c = err_form _ (power_form c.in-Some.ensures.token (cc (c.is_unary.ensures, c.if-is_unary.false))) c.power.ensures.none
 
 pub paren-returns-in_err-next-clause-none : goal.paren-returns-in_err-next-clause-none
 paren-returns-in_err-next-clause-none t c = passes _ c.from_residual.ensures.1 (refutes_form paren_form (refutes_first c.in_err-next.ensures.none))
@@ -708,7 +716,7 @@ pub paren-returns-in_err-to-clause-none : goal.paren-returns-in_err-to-clause-no
 paren-returns-in_err-to-clause-none t c = passes _ c.from_residual-in_err-to.ensures.1 (refutes_form paren_form (refutes_next c.in_ok-next.ensures.only (refutes_next c.in_ok-inner.ensures.only (refutes_next c.in_ok-inside.ensures.only (refutes_first c.in_err-to.ensures.none)))))
 
 pub paren-returns-clause-only : goal.paren-returns-clause-only
-paren-returns-clause-only t c = alone_form paren_form (alone_next c.in_ok-next.ensures.only (alone_next c.in_ok-inner.ensures.only (alone_next c.in_ok-inside.ensures.only (alone_next c.in_ok-to.ensures.only (alone_is (ap (λ (b : Expr). expression _ _ (expr.Paren b)) (sym c.in_ok-new.ensures)))))))
+paren-returns-clause-only t c = alone_form paren_form (alone_next c.in_ok-next.ensures.only (alone_next c.in_ok-inner.ensures.only (alone_next c.in_ok-inside.ensures.only (alone_next c.in_ok-to.ensures.only (alone_is (ap (λ (b : Expr). expression c.args.at c.in_ok-to.to (expr.Paren b)) (sym c.in_ok-new.ensures)))))))
 
 pub power-returns-in_err-inner-clause-none : goal.power-returns-in_err-inner-clause-none
 power-returns-in_err-inner-clause-none t c = passes _ c.from_residual-in_err-inner.ensures.1 (refutes_next c.in_ok-base.ensures.only (refutes_form (λ y h. h.power _ c.in-Some.ensures.token) (refutes_first c.in_err-inner.ensures.none)))
@@ -717,106 +725,152 @@ pub power-returns-in_err-exponent-clause-none : goal.power-returns-in_err-expone
 power-returns-in_err-exponent-clause-none t c = passes _ c.from_residual-in_err-exponent.ensures.1 (refutes_next c.in_ok-base.ensures.only (refutes_form (λ y h. h.power _ c.in-Some.ensures.token) (refutes_next c.in_ok-inner.ensures.only (refutes_first c.in_err-exponent.ensures.none))))
 
 pub power-returns-clause-only : goal.power-returns-clause-only
-power-returns-clause-only t c = alone_next c.in_ok-base.ensures.only (alone_form (λ y h. h.power _ c.in-Some.ensures.token) (alone_next c.in_ok-inner.ensures.only (alone_next c.in_ok-exponent.ensures.only (alone_is ?))))
+power-returns-clause-only t c = alone_next c.in_ok-base.ensures.only (alone_form (λ y h. h.power _ c.in-Some.ensures.token) (alone_next c.in_ok-inner.ensures.only (alone_next c.in_ok-exponent.ensures.only (alone_is (ap (λ (b : Expr). expression c.args.at (out-Expr c.in_ok-exponent.exponent).to (expr.Power b (out-Expr c.in_ok-base.base).to c.in_ok-exponent.exponent)) (sym c.in_ok-new.ensures) ∙ ap (λ (b : Expr). expression c.args.at (out-Expr c.in_ok-exponent.exponent).to (expr.Power c.in_ok-new.field-0 (out-Expr c.in_ok-base.base).to b)) (sym c.in_ok-new-2.ensures))))))
 
 pub prefix-returns-in_err-head-clause-none : goal.prefix-returns-in_err-head-clause-none
 prefix-returns-in_err-head-clause-none t c = passes _ c.from_residual.ensures.1 (refutes_form prefix_form (refutes_first c.in_err-head.ensures.none))
 
 pub prefix-returns-then-not-begins_suffix-clause-only : goal.prefix-returns-then-not-begins_suffix-clause-only
-prefix-returns-then-not-begins_suffix-clause-only t c = alone_form prefix_form (alone_next c.in_ok-head.ensures.only (λ y h. h.alone ?))
+prefix-returns-then-not-begins_suffix-clause-only t c = alone_form prefix_form (alone_next c.in_ok-head.ensures.only (λ y h. h.alone (cc (c.begins_suffix.ensures, c.if-not-begins_suffix.true))))
 
 pub prefix-returns-in_err-found-clause-none : goal.prefix-returns-in_err-found-clause-none
-prefix-returns-in_err-found-clause-none t c = passes _ c.from_residual-in_err-found.ensures.1 (refutes_form prefix_form (refutes_next c.in_ok-head.ensures.only (refutes_form (λ y h. h.more ?) (refutes_first c.in_err-found.ensures.none))))
+prefix-returns-in_err-found-clause-none t c = passes _ c.from_residual-in_err-found.ensures.1 (refutes_form prefix_form (refutes_next c.in_ok-head.ensures.only (refutes_form (λ y h. h.more (cc (c.begins_suffix.ensures, c.if-not-begins_suffix.false))) (refutes_first c.in_err-found.ensures.none))))
 
 pub prefix-returns-clause-only : goal.prefix-returns-clause-only
-prefix-returns-clause-only t c = alone_form prefix_form (alone_next c.in_ok-head.ensures.only (alone_form (λ y h. h.more ?) (alone_next c.in_ok-found.ensures.only (alone_is ?))))
+prefix-returns-clause-only t c = alone_form prefix_form (alone_next c.in_ok-head.ensures.only (alone_form (λ y h. h.more (cc (c.begins_suffix.ensures, c.if-not-begins_suffix.false))) (alone_next c.in_ok-found.ensures.only (alone_is (made_prefix _ _ c.suffixed.ensures c.in_ok-new.ensures)))))
 
 pub simple-returns-in_default-clause-none : goal.simple-returns-in_default-clause-none
 simple-returns-in_default-clause-none t c = record { nothing = λ known. simple_inside c.in_default.ensures.end }
 
-pub simple-returns-in-Word-Function-clause-only : goal.simple-returns-in-Word-Function-clause-only
-simple-returns-in-Word-Function-clause-only t c = ok_form _ (function_form ?) c.function.ensures.only
-
-pub simple-returns-in-Word-Function-clause-none : goal.simple-returns-in-Word-Function-clause-none
-simple-returns-in-Word-Function-clause-none t c = err_form _ (function_form ?) c.function.ensures.none
-
-pub simple-returns-in-Sign-LeftBrace-clause-only : goal.simple-returns-in-Sign-LeftBrace-clause-only
-simple-returns-in-Sign-LeftBrace-clause-only t c = ok_form _ (table_expr_form ?) c.table_expr.ensures.only
-
-pub simple-returns-in-Sign-LeftBrace-clause-none : goal.simple-returns-in-Sign-LeftBrace-clause-none
-simple-returns-in-Sign-LeftBrace-clause-none t c = err_form _ (table_expr_form ?) c.table_expr.ensures.none
-
 pub simple-returns-in-Some-leaf-clause-only : goal.simple-returns-in-Some-leaf-clause-only
-simple-returns-in-Some-leaf-clause-only t c = leaf_only c.in-Some.ensures.token ?
+simple-returns-in-Some-leaf-clause-only t c = leaf_only {tok = c.in-Some.tok} (record { there = cc (c.in-Some.ensures.token.there, c.in-Some.tok-is); next = omega (arith, c.in-Some.ensures.token.next, c.in-Some.to-is) }) (cc (c.leaf.ensures.kind, c.in-Some-leaf.is))
 
 pub simple-returns-in_err-found-clause-none : goal.simple-returns-in_err-found-clause-none
-simple-returns-in_err-found-clause-none t c = passes _ c.from_residual.ensures.1 (refutes_form (prefixed_form c.in-Some.ensures.token ? ? ?) (refutes_first c.in_err-found.ensures.none))
+simple-returns-in_err-found-clause-none t c = passes _ c.from_residual.ensures.1 (refutes_form (prefixed_form c.in-Some.ensures.token (cc (c.leaf.ensures.kind, c.in_default-leaf.is)) c.in_default-eat.ensures.other (not_at _ c.is_at.ensures c.if-is_at.false)) (refutes_first c.in_err-found.ensures.none))
 
 pub simple-returns-clause-only : goal.simple-returns-clause-only
-simple-returns-clause-only t c = alone_form (prefixed_form c.in-Some.ensures.token ? ? ?) (alone_next c.in_ok-found.ensures.only (λ y h. h))
+simple-returns-clause-only t c = alone_form (prefixed_form c.in-Some.ensures.token (cc (c.leaf.ensures.kind, c.in_default-leaf.is)) c.in_default-eat.ensures.other (not_at _ c.is_at.ensures c.if-is_at.false)) (alone_next c.in_ok-found.ensures.only (λ y h. h))
 
 pub stat-returns-in-Some-Word-If-default-clause-only : goal.stat-returns-in-Some-Word-If-default-clause-only
-stat-returns-in-Some-Word-If-default-clause-only t c = ok_form _ ? c.if_stat.ensures.only
+stat-returns-in-Some-Word-If-default-clause-only n c =
+    let h0 = c.in-Some-Word-If-default.ensures in
+    let t : IsToken (toks_of c.args.cut.now) c.args.at (Word word.If) c.in-Some-Word-If-default.next = record { there = cc (c.in-Some-Word-If-default.ensures.token.there, c.in-Some-Word-If-default.field-0-0-is, c.in-Some-Word-If-default.field-0-0-0-is); next = omega (arith, c.in-Some-Word-If-default.ensures.token.next, c.in-Some-Word-If-default.next-is) } in
+    ok_form _ (begins_word t) c.if_stat.ensures.only
 
 pub stat-returns-in-Some-Word-If-default-clause-none : goal.stat-returns-in-Some-Word-If-default-clause-none
-stat-returns-in-Some-Word-If-default-clause-none t c = err_form _ ? c.if_stat.ensures.none
+stat-returns-in-Some-Word-If-default-clause-none n c =
+    let h0 = c.in-Some-Word-If-default.ensures in
+    let t : IsToken (toks_of c.args.cut.now) c.args.at (Word word.If) c.in-Some-Word-If-default.next = record { there = cc (c.in-Some-Word-If-default.ensures.token.there, c.in-Some-Word-If-default.field-0-0-is, c.in-Some-Word-If-default.field-0-0-0-is); next = omega (arith, c.in-Some-Word-If-default.ensures.token.next, c.in-Some-Word-If-default.next-is) } in
+    err_form _ (begins_word t) c.if_stat.ensures.none
 
 pub stat-returns-in-Some-Word-While-default-clause-only : goal.stat-returns-in-Some-Word-While-default-clause-only
-stat-returns-in-Some-Word-While-default-clause-only t c = ok_form _ ? c.while_stat.ensures.only
+stat-returns-in-Some-Word-While-default-clause-only n c =
+    let h0 = c.in-Some-Word-While-default.ensures in
+    let t : IsToken (toks_of c.args.cut.now) c.args.at (Word word.While) c.in-Some-Word-While-default.next = record { there = cc (c.in-Some-Word-While-default.ensures.token.there, c.in-Some-Word-While-default.field-0-0-is, c.in-Some-Word-While-default.field-0-0-0-is); next = omega (arith, c.in-Some-Word-While-default.ensures.token.next, c.in-Some-Word-While-default.next-is) } in
+    ok_form _ (begins_word t) c.while_stat.ensures.only
 
 pub stat-returns-in-Some-Word-While-default-clause-none : goal.stat-returns-in-Some-Word-While-default-clause-none
-stat-returns-in-Some-Word-While-default-clause-none t c = err_form _ ? c.while_stat.ensures.none
+stat-returns-in-Some-Word-While-default-clause-none n c =
+    let h0 = c.in-Some-Word-While-default.ensures in
+    let t : IsToken (toks_of c.args.cut.now) c.args.at (Word word.While) c.in-Some-Word-While-default.next = record { there = cc (c.in-Some-Word-While-default.ensures.token.there, c.in-Some-Word-While-default.field-0-0-is, c.in-Some-Word-While-default.field-0-0-0-is); next = omega (arith, c.in-Some-Word-While-default.ensures.token.next, c.in-Some-Word-While-default.next-is) } in
+    err_form _ (begins_word t) c.while_stat.ensures.none
 
 pub stat-returns-in-Some-Word-Do-default-clause-only : goal.stat-returns-in-Some-Word-Do-default-clause-only
-stat-returns-in-Some-Word-Do-default-clause-only t c = ok_form _ ? c.do_stat.ensures.only
+stat-returns-in-Some-Word-Do-default-clause-only n c =
+    let h0 = c.in-Some-Word-Do-default.ensures in
+    let t : IsToken (toks_of c.args.cut.now) c.args.at (Word word.Do) c.in-Some-Word-Do-default.next = record { there = cc (c.in-Some-Word-Do-default.ensures.token.there, c.in-Some-Word-Do-default.field-0-0-is, c.in-Some-Word-Do-default.field-0-0-0-is); next = omega (arith, c.in-Some-Word-Do-default.ensures.token.next, c.in-Some-Word-Do-default.next-is) } in
+    ok_form _ (begins_word t) c.do_stat.ensures.only
 
 pub stat-returns-in-Some-Word-Do-default-clause-none : goal.stat-returns-in-Some-Word-Do-default-clause-none
-stat-returns-in-Some-Word-Do-default-clause-none t c = err_form _ ? c.do_stat.ensures.none
+stat-returns-in-Some-Word-Do-default-clause-none n c =
+    let h0 = c.in-Some-Word-Do-default.ensures in
+    let t : IsToken (toks_of c.args.cut.now) c.args.at (Word word.Do) c.in-Some-Word-Do-default.next = record { there = cc (c.in-Some-Word-Do-default.ensures.token.there, c.in-Some-Word-Do-default.field-0-0-is, c.in-Some-Word-Do-default.field-0-0-0-is); next = omega (arith, c.in-Some-Word-Do-default.ensures.token.next, c.in-Some-Word-Do-default.next-is) } in
+    err_form _ (begins_word t) c.do_stat.ensures.none
 
 pub stat-returns-in-Some-Word-For-default-clause-only : goal.stat-returns-in-Some-Word-For-default-clause-only
-stat-returns-in-Some-Word-For-default-clause-only t c = ok_form _ ? c.for_stat.ensures.only
+stat-returns-in-Some-Word-For-default-clause-only n c =
+    let h0 = c.in-Some-Word-For-default.ensures in
+    let t : IsToken (toks_of c.args.cut.now) c.args.at (Word word.For) c.in-Some-Word-For-default.next = record { there = cc (c.in-Some-Word-For-default.ensures.token.there, c.in-Some-Word-For-default.field-0-0-is, c.in-Some-Word-For-default.field-0-0-0-is); next = omega (arith, c.in-Some-Word-For-default.ensures.token.next, c.in-Some-Word-For-default.next-is) } in
+    ok_form _ (begins_word t) c.for_stat.ensures.only
 
 pub stat-returns-in-Some-Word-For-default-clause-none : goal.stat-returns-in-Some-Word-For-default-clause-none
-stat-returns-in-Some-Word-For-default-clause-none t c = err_form _ ? c.for_stat.ensures.none
+stat-returns-in-Some-Word-For-default-clause-none n c =
+    let h0 = c.in-Some-Word-For-default.ensures in
+    let t : IsToken (toks_of c.args.cut.now) c.args.at (Word word.For) c.in-Some-Word-For-default.next = record { there = cc (c.in-Some-Word-For-default.ensures.token.there, c.in-Some-Word-For-default.field-0-0-is, c.in-Some-Word-For-default.field-0-0-0-is); next = omega (arith, c.in-Some-Word-For-default.ensures.token.next, c.in-Some-Word-For-default.next-is) } in
+    err_form _ (begins_word t) c.for_stat.ensures.none
 
 pub stat-returns-in-Some-Word-Repeat-default-clause-only : goal.stat-returns-in-Some-Word-Repeat-default-clause-only
-stat-returns-in-Some-Word-Repeat-default-clause-only t c = ok_form _ ? c.repeat_stat.ensures.only
+stat-returns-in-Some-Word-Repeat-default-clause-only n c =
+    let h0 = c.in-Some-Word-Repeat-default.ensures in
+    let t : IsToken (toks_of c.args.cut.now) c.args.at (Word word.Repeat) c.in-Some-Word-Repeat-default.next = record { there = cc (c.in-Some-Word-Repeat-default.ensures.token.there, c.in-Some-Word-Repeat-default.field-0-0-is, c.in-Some-Word-Repeat-default.field-0-0-0-is); next = omega (arith, c.in-Some-Word-Repeat-default.ensures.token.next, c.in-Some-Word-Repeat-default.next-is) } in
+    ok_form _ (begins_word t) c.repeat_stat.ensures.only
 
 pub stat-returns-in-Some-Word-Repeat-default-clause-none : goal.stat-returns-in-Some-Word-Repeat-default-clause-none
-stat-returns-in-Some-Word-Repeat-default-clause-none t c = err_form _ ? c.repeat_stat.ensures.none
+stat-returns-in-Some-Word-Repeat-default-clause-none n c =
+    let h0 = c.in-Some-Word-Repeat-default.ensures in
+    let t : IsToken (toks_of c.args.cut.now) c.args.at (Word word.Repeat) c.in-Some-Word-Repeat-default.next = record { there = cc (c.in-Some-Word-Repeat-default.ensures.token.there, c.in-Some-Word-Repeat-default.field-0-0-is, c.in-Some-Word-Repeat-default.field-0-0-0-is); next = omega (arith, c.in-Some-Word-Repeat-default.ensures.token.next, c.in-Some-Word-Repeat-default.next-is) } in
+    err_form _ (begins_word t) c.repeat_stat.ensures.none
 
 pub stat-returns-in-Some-Word-Function-default-clause-only : goal.stat-returns-in-Some-Word-Function-default-clause-only
-stat-returns-in-Some-Word-Function-default-clause-only t c = ok_form _ ? c.function_stat.ensures.only
+stat-returns-in-Some-Word-Function-default-clause-only n c =
+    let h0 = c.in-Some-Word-Function-default.ensures in
+    let t : IsToken (toks_of c.args.cut.now) c.args.at (Word word.Function) c.in-Some-Word-Function-default.next = record { there = cc (c.in-Some-Word-Function-default.ensures.token.there, c.in-Some-Word-Function-default.field-0-0-is, c.in-Some-Word-Function-default.field-0-0-0-is); next = omega (arith, c.in-Some-Word-Function-default.ensures.token.next, c.in-Some-Word-Function-default.next-is) } in
+    ok_form _ (begins_word t) c.function_stat.ensures.only
 
 pub stat-returns-in-Some-Word-Function-default-clause-none : goal.stat-returns-in-Some-Word-Function-default-clause-none
-stat-returns-in-Some-Word-Function-default-clause-none t c = err_form _ ? c.function_stat.ensures.none
+stat-returns-in-Some-Word-Function-default-clause-none n c =
+    let h0 = c.in-Some-Word-Function-default.ensures in
+    let t : IsToken (toks_of c.args.cut.now) c.args.at (Word word.Function) c.in-Some-Word-Function-default.next = record { there = cc (c.in-Some-Word-Function-default.ensures.token.there, c.in-Some-Word-Function-default.field-0-0-is, c.in-Some-Word-Function-default.field-0-0-0-is); next = omega (arith, c.in-Some-Word-Function-default.ensures.token.next, c.in-Some-Word-Function-default.next-is) } in
+    err_form _ (begins_word t) c.function_stat.ensures.none
 
 pub stat-returns-in-Some-Word-Local-default-clause-only : goal.stat-returns-in-Some-Word-Local-default-clause-only
-stat-returns-in-Some-Word-Local-default-clause-only t c = ok_form _ ? c.local_stat.ensures.only
+stat-returns-in-Some-Word-Local-default-clause-only n c =
+    let h0 = c.in-Some-Word-Local-default.ensures in
+    let t : IsToken (toks_of c.args.cut.now) c.args.at (Word word.Local) c.in-Some-Word-Local-default.next = record { there = cc (c.in-Some-Word-Local-default.ensures.token.there, c.in-Some-Word-Local-default.field-0-0-is, c.in-Some-Word-Local-default.field-0-0-0-is); next = omega (arith, c.in-Some-Word-Local-default.ensures.token.next, c.in-Some-Word-Local-default.next-is) } in
+    ok_form _ (begins_word t) c.local_stat.ensures.only
 
 pub stat-returns-in-Some-Word-Local-default-clause-none : goal.stat-returns-in-Some-Word-Local-default-clause-none
-stat-returns-in-Some-Word-Local-default-clause-none t c = err_form _ ? c.local_stat.ensures.none
+stat-returns-in-Some-Word-Local-default-clause-none n c =
+    let h0 = c.in-Some-Word-Local-default.ensures in
+    let t : IsToken (toks_of c.args.cut.now) c.args.at (Word word.Local) c.in-Some-Word-Local-default.next = record { there = cc (c.in-Some-Word-Local-default.ensures.token.there, c.in-Some-Word-Local-default.field-0-0-is, c.in-Some-Word-Local-default.field-0-0-0-is); next = omega (arith, c.in-Some-Word-Local-default.ensures.token.next, c.in-Some-Word-Local-default.next-is) } in
+    err_form _ (begins_word t) c.local_stat.ensures.none
 
 pub stat-returns-in-Some-Word-Goto-default-clause-only : goal.stat-returns-in-Some-Word-Goto-default-clause-only
-stat-returns-in-Some-Word-Goto-default-clause-only t c = ok_form _ ? c.goto_stat.ensures.only
+stat-returns-in-Some-Word-Goto-default-clause-only n c =
+    let h0 = c.in-Some-Word-Goto-default.ensures in
+    let t : IsToken (toks_of c.args.cut.now) c.args.at (Word word.Goto) c.in-Some-Word-Goto-default.next = record { there = cc (c.in-Some-Word-Goto-default.ensures.token.there, c.in-Some-Word-Goto-default.field-0-0-is, c.in-Some-Word-Goto-default.field-0-0-0-is); next = omega (arith, c.in-Some-Word-Goto-default.ensures.token.next, c.in-Some-Word-Goto-default.next-is) } in
+    ok_form _ (begins_word t) c.goto_stat.ensures.only
 
 pub stat-returns-in-Some-Word-Goto-default-clause-none : goal.stat-returns-in-Some-Word-Goto-default-clause-none
-stat-returns-in-Some-Word-Goto-default-clause-none t c = err_form _ ? c.goto_stat.ensures.none
+stat-returns-in-Some-Word-Goto-default-clause-none n c =
+    let h0 = c.in-Some-Word-Goto-default.ensures in
+    let t : IsToken (toks_of c.args.cut.now) c.args.at (Word word.Goto) c.in-Some-Word-Goto-default.next = record { there = cc (c.in-Some-Word-Goto-default.ensures.token.there, c.in-Some-Word-Goto-default.field-0-0-is, c.in-Some-Word-Goto-default.field-0-0-0-is); next = omega (arith, c.in-Some-Word-Goto-default.ensures.token.next, c.in-Some-Word-Goto-default.next-is) } in
+    err_form _ (begins_word t) c.goto_stat.ensures.none
 
 pub stat-returns-in-Some-Sign-DoubleColon-default-clause-only : goal.stat-returns-in-Some-Sign-DoubleColon-default-clause-only
-stat-returns-in-Some-Sign-DoubleColon-default-clause-only t c = ok_form _ ? c.label_stat.ensures.only
+stat-returns-in-Some-Sign-DoubleColon-default-clause-only n c =
+    let h0 = c.in-Some-Sign-DoubleColon-default.ensures in
+    let t : IsToken (toks_of c.args.cut.now) c.args.at (Sign sign.DoubleColon) c.in-Some-Sign-DoubleColon-default.next = record { there = cc (c.in-Some-Sign-DoubleColon-default.ensures.token.there, c.in-Some-Sign-DoubleColon-default.field-0-0-is, c.in-Some-Sign-DoubleColon-default.field-0-0-0-is); next = omega (arith, c.in-Some-Sign-DoubleColon-default.ensures.token.next, c.in-Some-Sign-DoubleColon-default.next-is) } in
+    ok_form _ (begins_sign t) c.label_stat.ensures.only
 
 pub stat-returns-in-Some-Sign-DoubleColon-default-clause-none : goal.stat-returns-in-Some-Sign-DoubleColon-default-clause-none
-stat-returns-in-Some-Sign-DoubleColon-default-clause-none t c = err_form _ ? c.label_stat.ensures.none
+stat-returns-in-Some-Sign-DoubleColon-default-clause-none n c =
+    let h0 = c.in-Some-Sign-DoubleColon-default.ensures in
+    let t : IsToken (toks_of c.args.cut.now) c.args.at (Sign sign.DoubleColon) c.in-Some-Sign-DoubleColon-default.next = record { there = cc (c.in-Some-Sign-DoubleColon-default.ensures.token.there, c.in-Some-Sign-DoubleColon-default.field-0-0-is, c.in-Some-Sign-DoubleColon-default.field-0-0-0-is); next = omega (arith, c.in-Some-Sign-DoubleColon-default.ensures.token.next, c.in-Some-Sign-DoubleColon-default.next-is) } in
+    err_form _ (begins_sign t) c.label_stat.ensures.none
 
 pub stat-returns-in-Some-Word-Break-default-clause-only : goal.stat-returns-in-Some-Word-Break-default-clause-only
-stat-returns-in-Some-Word-Break-default-clause-only t c = ?
+stat-returns-in-Some-Word-Break-default-clause-only n c =
+    let t : IsToken (toks_of c.args.cut.now) c.args.at (Word word.Break) c.in-Some-Word-Break-default.to = record { there = cc (c.in-Some-Word-Break-default.ensures.token.there, c.in-Some-Word-Break-default.field-0-0-is, c.in-Some-Word-Break-default.field-0-0-0-is); next = omega (arith, c.in-Some-Word-Break-default.ensures.token.next, c.in-Some-Word-Break-default.to-is) } in
+    begins_word t
 
 pub stat-returns-in-Some-Sign-Semicolon-default-clause-only : goal.stat-returns-in-Some-Sign-Semicolon-default-clause-only
-stat-returns-in-Some-Sign-Semicolon-default-clause-only t c = ?
+stat-returns-in-Some-Sign-Semicolon-default-clause-only n c =
+    let t : IsToken (toks_of c.args.cut.now) c.args.at (Sign sign.Semicolon) c.in-Some-Sign-Semicolon-default.to = record { there = cc (c.in-Some-Sign-Semicolon-default.ensures.token.there, c.in-Some-Sign-Semicolon-default.field-0-0-is, c.in-Some-Sign-Semicolon-default.field-0-0-0-is); next = omega (arith, c.in-Some-Sign-Semicolon-default.ensures.token.next, c.in-Some-Sign-Semicolon-default.to-is) } in
+    begins_sign t
 
 pub stat-returns-in_default-clause-only : goal.stat-returns-in_default-clause-only
-stat-returns-in_default-clause-only t c = ok_form _ ? c.expr_stat.ensures.only
+stat-returns-in_default-clause-only t c = ok_form _ (λ s h. elim c.in_default.branch [ stat-in_default-via-in-Some+in-Word+in_default w ↦ let d = w.in_default.is in let e = w.in_default.ensures in let f = w.in_default.in-And-own in let g = w.in_default.t16-in-Word-1-own in ? | stat-in_default-via-in-Some+in-Sign+in_default w ↦ ? | stat-in_default-via-in-Some+in_default w ↦ ? | stat-in_default-via-in_default w ↦ ? ]) c.expr_stat.ensures.only
 
 pub stat-returns-in_default-clause-none : goal.stat-returns-in_default-clause-none
 stat-returns-in_default-clause-none t c = err_form _ ? c.expr_stat.ensures.none
@@ -858,7 +912,7 @@ pub suffixes-returns-in_err-one-clause-none : goal.suffixes-returns-in_err-one-c
 suffixes-returns-in_err-one-clause-none t c = passes _ c.from_residual.ensures.1 (refutes_triple _ (ahead_refutes _ c.loop-found.invariant.ahead (refutes_form suffixes_form (refutes_first c.in_err-one.ensures.none))))
 
 pub suffixes-returns-then-not-begins_suffix-clause-only : goal.suffixes-returns-then-not-begins_suffix-clause-only
-suffixes-returns-then-not-begins_suffix-clause-only t c = alone_triple _ (ahead_last _ c.loop-found.invariant.ahead c.in_ok-push.ensures.ok (list_last suffixes_form c.in_ok-one.ensures.only (λ next h. ?)))
+suffixes-returns-then-not-begins_suffix-clause-only t c = alone_triple _ (ahead_last _ c.loop-found.invariant.ahead c.in_ok-push.ensures.ok (list_last suffixes_form c.in_ok-one.ensures.only (λ next h. let b = h.0 in absurd (cc (b, c.begins_suffix.ensures, c.if-not-begins_suffix.true)))))
 
 pub table-returns-in_err-first-clause-none : goal.table-returns-in_err-first-clause-none
 table-returns-in_err-first-clause-none t c = passes _ c.from_residual.ensures.1 (refutes_form table_form (refutes_first c.in_err-first.ensures.none))
@@ -882,16 +936,28 @@ pub targets-returns-in_err-one-clause-none : goal.targets-returns-in_err-one-cla
 targets-returns-in_err-one-clause-none t c = passes _ c.from_residual-in_err-one.ensures.1 (ahead_refutes _ c.loop-found.invariant.ahead (refutes_form (targets_form c.in-Some.ensures.token) (refutes_first c.in_err-one.ensures.none)))
 
 pub variable-returns-in_err-prefix-clause-none : goal.variable-returns-in_err-prefix-clause-none
-variable-returns-in_err-prefix-clause-none t c = passes _ c.from_residual.ensures.1 (refutes_by (λ y h. (_, variable_prefix y h)) c.in_err-prefix.ensures.none)
+variable-returns-in_err-prefix-clause-none t c = passes _ c.from_residual.ensures.1 (refutes_by (λ y h. (record { shape = Variable; expr = y }, variable_prefix y h)) c.in_err-prefix.ensures.none)
 
 pub variable-returns-in-Variable-clause-only : goal.variable-returns-in-Variable-clause-only
-variable-returns-in-Variable-clause-only t c = λ y h. ?
+variable-returns-in-Variable-clause-only t c = λ y h. ap (λ (p : PrefixExpr). p.expr) (c.in_ok-prefix.ensures.only (record { shape = Variable; expr = y }) (variable_prefix y h))
 
 pub variable-returns-in_default : goal.variable-returns-in_default
-variable-returns-in_default t c = ?
+variable-returns-in_default t c = record { ok = tt; only = tt; err = c.refusal.ensures; none = record { nothing = λ known y h. let e = c.in_ok-prefix.ensures.only (record { shape = Variable; expr = y }) (variable_prefix y h) in c.in_default.not-Variable (ap (λ (p : PrefixExpr). p.shape) (sym e)) } }
 
 pub while_stat-returns-in_err-body-clause-none : goal.while_stat-returns-in_err-body-clause-none
 while_stat-returns-in_err-body-clause-none t c = passes _ c.from_residual-in_err-body.ensures.1 (refutes_next c.in_ok-test.ensures.only (refutes_next c.in_ok-inside.ensures.only (refutes_first c.in_err-body.ensures.none)))
 
 pub while_stat-returns-clause-only : goal.while_stat-returns-clause-only
 while_stat-returns-clause-only t c = alone_next c.in_ok-test.ensures.only (alone_next c.in_ok-inside.ensures.only (alone_next c.in_ok-body.ensures.only (λ y h. h)))
+
+pub simple-returns-in-Some-eat-clause-only : goal.simple-returns-in-Some-eat-clause-only
+simple-returns-in-Some-eat-clause-only t c = ok_form _ (function_form c.in-Some-eat.ensures.token) c.function.ensures.only
+
+pub simple-returns-in-Some-eat-clause-none : goal.simple-returns-in-Some-eat-clause-none
+simple-returns-in-Some-eat-clause-none t c = err_form _ (function_form c.in-Some-eat.ensures.token) c.function.ensures.none
+
+pub simple-returns-then-is_at-clause-only : goal.simple-returns-then-is_at-clause-only
+simple-returns-then-is_at-clause-only t c = ok_form _ (table_expr_form (is_at _ c.is_at.ensures c.if-is_at.true)) c.table_expr.ensures.only
+
+pub simple-returns-then-is_at-clause-none : goal.simple-returns-then-is_at-clause-none
+simple-returns-then-is_at-clause-none t c = err_form _ (table_expr_form (is_at _ c.is_at.ensures c.if-is_at.true)) c.table_expr.ensures.none

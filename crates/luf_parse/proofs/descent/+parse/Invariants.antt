@@ -215,7 +215,7 @@ decreases-block-loop-stats l = length (toks_of l.cut) - l.to
 
 abbrev pub invariant-targets-loop-found : goal.invariant-targets-loop-found
 invariant-targets-loop-found l = record {
-  ahead : Ahead (ReadMoreTargets (toks_of l.cut) l.left l.fn.at l.first) l.found (ReadMoreTargets (toks_of l.cut) l.left l.at l.one);
+  ahead : Ahead (ReadMoreTargets (toks_of l.cut) l.left l.fn.at l.fn.first) l.found (ReadMoreTargets (toks_of l.cut) l.left l.at l.one);
   joins : Joins (AreTargets (toks_of l.cut)) l.fn.at l.at l.found;
   one : Found (toks_of l.cut) (l.at + 1) (out-Expr l.one).to l.left (expr_levels l.one) (IsVariable (toks_of l.cut) l.at (out-Expr l.one).to l.one);
   forward : l.fn.at ≤ l.at;
