@@ -8,10 +8,13 @@ use Rattle.luf_parse.specs.Exact.{Alone, Refutes, Then, Enters}
 use Rattle.luf_parse.specs.declared.error.ParseErr.{ParseErr}
 use Rattle.luf_parse.specs.declared.error.ParseErr.TheVariants as error
 
--- an error that is passed on refutes the same
+-- an error that is passed on is the same
+pub passed : {R : Type 0} (P : ParseErr → Type 0) {e : ParseErr} (r : Result R ParseErr) → IsErrAnd r (λ x. x ≡ e) → P e → IfErr r P
+passed P (Ok x) is h = cc
+passed P (Err x) is h = subst P (sym is) h
+
 pub passes : {R A : Type 0} {P : A → Type 0} {e : ParseErr} (r : Result R ParseErr) → IsErrAnd r (λ x. x ≡ e) → Refutes P e → IfErr r (Refutes P)
-passes (Ok x) is h = cc
-passes {P = P} (Err x) is h = subst (λ (z : ParseErr). Refutes P z) (sym is) h
+passes {P = P} r is h = passed (Refutes P) r is h
 
 -- where each whole has a part, what refutes the part refutes the whole
 pub refutes_by : {A B : Type 0} {P : A → Type 0} {Q : B → Type 0} {e : ParseErr} → ((y : A) → P y → (z : B) × Q z) → Refutes Q e → Refutes P e
@@ -63,8 +66,11 @@ enters_only h k u = omega arith
 abbrev pub Ahead : {X T : Type 0} → ((List X × T) → Type 0) → List X → ((List X × T) → Type 0) → Type 0
 Ahead {X} {T} P found Q = (y : List X × T) → P y → (r : List X × T) × Q r × (y ≡ (found ++ r.0, r.1))
 
+pub ahead_start : {X T : Type 0} {P Q : (List X × T) → Type 0} {found : List X} → found ≡ [] → ((y : List X × T) → P y → Q y) → Ahead P found Q
+ahead_start {X} {T} {P} {Q} {found} e f y p = (y, f y p, ap (λ xs. (xs ++ y.0, y.1)) (sym e))
+
 pub ahead_none : {X T : Type 0} {P : (List X × T) → Type 0} {found : List X} → found ≡ [] → Ahead P found P
-ahead_none {X} {T} {P} {found} e y p = (y, p, ap (λ xs. (xs ++ y.0, y.1)) (sym e))
+ahead_none e = ahead_start e (λ y p. p)
 
 pub ahead_more : {X T : Type 0} {P Q R : (List X × T) → Type 0} (found : List X) {new : List X} {x : X} → Ahead P found Q → new ≡ found ++ x ∷ []
     → ((r : List X × T) → Q r → (s : List X × T) × R s × (r ≡ (x ∷ s.0, s.1))) → Ahead P new R

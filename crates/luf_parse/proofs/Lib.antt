@@ -7,5 +7,6 @@ pub mod Begins
 pub mod NameForms
 pub mod ExprForms
 pub mod StatForms
+pub mod AllTokens
 pub mod ExprParts
 pub mod StatParts

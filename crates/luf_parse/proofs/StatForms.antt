@@ -21,10 +21,12 @@ use Rattle.luf_tree.specs.Grammar as g
 use Rattle.luf_tree.specs.Grammar.{At, expression, statement, IsToken, IsClosed, AreNames, AreDeclared, IsPath, IsMethod, IsSemicolon, IsExpr, IsVariable, IsCall, IsHead, AreExprs, IsFuncBody, IsBlock, AreStats, IsReturn, IsStat, AreTargets, IsArm, AreArms, IsElse, IsForStep}
 use Rattle.luf_tree.proofs.LevelEquations as lv
 use Rattle.luf_parse.specs.Exact.{Alone, Then, Enters}
-use Rattle.luf_parse.specs.Follow.{NotAt, EndsExpr, ends_block, stops_stats, ends_arms, follows_stat, ends_return, EndsBlock, EndsStat, EndsArms}
-use Rattle.luf_parse.specs.Parts.{Part, ReadExpr, ReadExprs, ReadFuncBody, ReadParams, ReadBlock, ReadStats, ReadSemicolon, ReadReturn, ReadStat, ReadLabel, ReadGoto, ReadDo, ReadWhile, ReadRepeat, ReadArms, ReadArm, ReadElse, ReadIf, ReadForStep, ReadCount, ReadFor, ReadFunctionStat, ReadLocalFunction, ReadLocal, ReadVariable, ReadMoreTargets, ReadExprStat, ReadPrefix}
+use Rattle.luf_parse.specs.Follow.{NotAt, EndsExpr, ends_block, stops_stats, ends_arms, follows_stat, ends_return, begins_prefix, EndsBlock, EndsStat, EndsArms}
+use Rattle.luf_parse.specs.Parts.{Part, ReadExpr, ReadExprs, ReadFuncBody, ReadParams, ReadBlock, ReadStats, ReadSemicolon, ReadReturn, ReadShort, ReadStat, ReadLabel, ReadGoto, ReadDo, ReadWhile, ReadRepeat, ReadArms, ReadArm, ReadElse, ReadIf, ReadForStep, ReadCount, ReadFor, ReadFunctionStat, ReadLocalFunction, ReadLocal, ReadVariable, ReadMoreTargets, ReadExprStat, ReadPrefix}
 use Rattle.luf_parse.specs.Reads.{token_begins_suffix, begins_suffix}
 use Rattle.luf_parse.specs.declared.descent.Shape.TheVariants.{Variable, Call}
+use Rattle.luf_tree.specs.First.{starts_stat}
+use Rattle.luf_tree.proofs.TokenLaws.{stat_starts}
 use Rattle.luf_parse.proofs.Exactness.{ListRest}
 use Rattle.luf_parse.proofs.NameForms.{same_end, second_end}
 use Rattle.luf_parse.proofs.Ends.{moved, expr_to, variable_to, call_to, body_to, block_to, return_to, stat_to}
@@ -432,3 +434,44 @@ begins_word {toks} {left} {i} {next} {w} t s h =
 pub begins_sign : {toks : List Tok} {left i next : ℕ} {m : Mark} → IsToken toks i (Sign m) next → (s : Stat) → ReadStat toks left i s → SignForm toks left i next m s
 begins_sign {toks} {left} {i} {next} {m} t s h =
     subst (λ n. SignForm toks left i n m s) (sym t.next) (subst (λ (o : Option Tok). StatForm toks left i (i + 1) o s) t.there (stat_form s h))
+
+expr_stat_from : {toks : List Tok} {left i : ℕ} (next : ℕ) {s : Stat} (o : Option Tok) → begins_prefix o ≡ true → StatForm toks left i next o s → ReadExprStat toks left i s
+expr_stat_from next None h form = absurd cc
+expr_stat_from next (Some Name) h form = form
+expr_stat_from next (Some (Sign sign.LeftParen)) h form = form
+expr_stat_from next (Some (Sign _)) h form = absurd cc
+expr_stat_from next (Some _) h form = absurd cc
+
+pub expr_stat_form : {toks : List Tok} {left i : ℕ} → begins_prefix (slice_get toks i) ≡ true → (s : Stat) → ReadStat toks left i s → ReadExprStat toks left i s
+expr_stat_form {toks} {left} {i} begins s h = expr_stat_from (i + 1) (slice_get toks i) begins (stat_form s h)
+
+-- behind none of the longer statements' first tokens
+pub short_form : {toks : List Tok} {left i : ℕ} → begins_prefix (slice_get toks i) ≡ false → NotAt toks i (Word word.Local) → NotAt toks i (Word word.If) → NotAt toks i (Word word.For) → NotAt toks i (Word word.Function)
+    → NotAt toks i (Word word.While) → NotAt toks i (Word word.Do) → NotAt toks i (Word word.Repeat) → (s : Stat) → ReadStat toks left i s → ReadShort toks i s
+short_form {toks} {left} {i} prefix local_ if_ for_ function_ while_ do_ repeat_ s h = record {
+    break = λ to t. begins_word t s h;
+    empty = λ to t. begins_sign t s h;
+    goto = λ name t. begins_word t s h;
+    label = λ name t. begins_sign t s h;
+    other = λ b e g l. none (slice_get toks i) (stat_starts h.is) prefix local_ if_ for_ function_ while_ do_ repeat_ b e g l;
+  }
+  where
+    none : (o : Option Tok) → starts_stat o ≡ true → begins_prefix o ≡ false → (o ≡ Some (Word word.Local) → ⊥) → (o ≡ Some (Word word.If) → ⊥) → (o ≡ Some (Word word.For) → ⊥) → (o ≡ Some (Word word.Function) → ⊥)
+      → (o ≡ Some (Word word.While) → ⊥) → (o ≡ Some (Word word.Do) → ⊥) → (o ≡ Some (Word word.Repeat) → ⊥) → (o ≡ Some (Word word.Break) → ⊥) → (o ≡ Some (Sign sign.Semicolon) → ⊥) → (o ≡ Some (Word word.Goto) → ⊥) → (o ≡ Some (Sign sign.DoubleColon) → ⊥) → ⊥
+    none None starts p h1 h2 h3 h4 h5 h6 h7 b e g l = cc
+    none (Some Name) starts p h1 h2 h3 h4 h5 h6 h7 b e g l = cc
+    none (Some (Word word.Local)) starts p h1 h2 h3 h4 h5 h6 h7 b e g l = h1 refl
+    none (Some (Word word.If)) starts p h1 h2 h3 h4 h5 h6 h7 b e g l = h2 refl
+    none (Some (Word word.For)) starts p h1 h2 h3 h4 h5 h6 h7 b e g l = h3 refl
+    none (Some (Word word.Function)) starts p h1 h2 h3 h4 h5 h6 h7 b e g l = h4 refl
+    none (Some (Word word.While)) starts p h1 h2 h3 h4 h5 h6 h7 b e g l = h5 refl
+    none (Some (Word word.Do)) starts p h1 h2 h3 h4 h5 h6 h7 b e g l = h6 refl
+    none (Some (Word word.Repeat)) starts p h1 h2 h3 h4 h5 h6 h7 b e g l = h7 refl
+    none (Some (Word word.Break)) starts p h1 h2 h3 h4 h5 h6 h7 b e g l = b refl
+    none (Some (Word word.Goto)) starts p h1 h2 h3 h4 h5 h6 h7 b e g l = g refl
+    none (Some (Word _)) starts p h1 h2 h3 h4 h5 h6 h7 b e g l = cc
+    none (Some (Sign sign.Semicolon)) starts p h1 h2 h3 h4 h5 h6 h7 b e g l = e refl
+    none (Some (Sign sign.DoubleColon)) starts p h1 h2 h3 h4 h5 h6 h7 b e g l = l refl
+    none (Some (Sign sign.LeftParen)) starts p h1 h2 h3 h4 h5 h6 h7 b e g l = cc
+    none (Some (Sign _)) starts p h1 h2 h3 h4 h5 h6 h7 b e g l = cc
+    none (Some _) starts p h1 h2 h3 h4 h5 h6 h7 b e g l = cc

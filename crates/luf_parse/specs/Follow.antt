@@ -157,3 +157,13 @@ NotString toks i = (to : ℕ) → IsString toks i to → ⊥
 -- a `,` or a `;` stands there
 abbrev pub IsSeparator : List Tok → ℕ → ℕ → Type 0
 IsSeparator toks i next = IsToken toks i (tok.Sign sign.Comma) next ⊎ IsToken toks i (tok.Sign sign.Semicolon) next
+
+abbrev pub sign_begins_prefix : Sign → Bool
+sign_begins_prefix sign.LeftParen = true
+sign_begins_prefix _ = false
+
+-- a prefix expression begins with this token
+abbrev pub begins_prefix : Option Tok → Bool
+begins_prefix (Some tok.Name) = true
+begins_prefix (Some (tok.Sign s)) = sign_begins_prefix s
+begins_prefix _ = false

@@ -281,3 +281,11 @@ ReadShaped toks left i Paren e s = ⊥
 -- a call or an assignment
 abbrev pub ReadExprStat : List Tok → ℕ → ℕ → Stat → Type 0
 ReadExprStat toks left i = Then (ReadPrefix toks left i) (λ p. ReadShaped toks left i p.shape p.expr)
+
+-- `break`, `;`, `goto` or a label, by the token that stands there
+pub record ReadShort (toks : List Tok) (i : ℕ) (s : Stat) : Type 0 where
+  pub break : (to : ℕ) → IsToken toks i (Word word.Break) to → s ≡ statement i to stat.Break
+  pub empty : (to : ℕ) → IsToken toks i (Sign sign.Semicolon) to → s ≡ statement i to stat.Empty
+  pub goto : (name : ℕ) → IsToken toks i (Word word.Goto) name → ReadGoto toks i name s
+  pub label : (name : ℕ) → IsToken toks i (Sign sign.DoubleColon) name → ReadLabel toks i name s
+  pub other : NotAt toks i (Word word.Break) → NotAt toks i (Sign sign.Semicolon) → NotAt toks i (Word word.Goto) → NotAt toks i (Sign sign.DoubleColon) → ⊥

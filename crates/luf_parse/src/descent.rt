@@ -15,8 +15,8 @@ ghost use Rattle.luf_parse.specs.Reads as reads;
 ghost use Rattle.luf_parse.specs.Reads.{IsRefusal, Found};
 ghost use Rattle.luf_parse.specs.Shapes.{IsShaped, IsLeaf, leaf_kind, suffixed_shape, lone_args};
 ghost use Rattle.luf_parse.specs.Exact.{Alone, Refutes};
-ghost use Rattle.luf_parse.specs.Follow.{IsAssigned, NotAssigned, NotString, IsSeparator, stops_stats, ends_return};
-ghost use Rattle.luf_parse.specs.Parts.{ReadArgs, ReadArm, ReadArms, ReadAssign, ReadBlock, ReadChain, ReadCount, ReadDo, ReadElse, ReadEnded, ReadExpr, ReadExprStat, ReadExprs, ReadField, ReadFields, ReadFor, ReadForStep, ReadFuncBody, ReadFunction, ReadFunctionStat, ReadGoto, ReadHead, ReadIf, ReadKeyed, ReadLabel, ReadListArgs, ReadLocal, ReadLoneArg, ReadMoreTargets, ReadOperand, ReadParen, ReadPower, ReadPrefix, ReadRepeat, ReadReturn, ReadSemicolon, ReadSimple, ReadStat, ReadSuffix, ReadSuffixes, ReadTable, ReadTableExpr, ReadVariable, ReadWhile};
+ghost use Rattle.luf_parse.specs.Follow.{IsAssigned, NotAssigned, NotString, IsSeparator, begins_prefix, stops_stats, ends_return};
+ghost use Rattle.luf_parse.specs.Parts.{ReadArgs, ReadArm, ReadArms, ReadAssign, ReadBlock, ReadChain, ReadCount, ReadDo, ReadElse, ReadEnded, ReadExpr, ReadExprStat, ReadExprs, ReadField, ReadFields, ReadFor, ReadForStep, ReadFuncBody, ReadFunction, ReadFunctionStat, ReadGoto, ReadHead, ReadIf, ReadKeyed, ReadLabel, ReadListArgs, ReadLocal, ReadLoneArg, ReadMoreTargets, ReadOperand, ReadParen, ReadPower, ReadPrefix, ReadRepeat, ReadReturn, ReadShort, ReadSemicolon, ReadSimple, ReadStat, ReadSuffix, ReadSuffixes, ReadTable, ReadTableExpr, ReadVariable, ReadWhile};
 
 use crate::ParseErr;
 use crate::names::{declared, method, names, params, path};
@@ -726,28 +726,71 @@ fn stat(alloc: Global, cut: &Cut, left: u32, at: u32) -> Result<Stat, ParseErr>
     ensures only { IfOk result (Alone (ReadStat (toks_of cut.now) left at)) }
     ensures none { IfErr result (Refutes (ReadStat (toks_of cut.now) left at)) }
 {
-    match take(cut, at) {
-        Some((Tok::Word(Word::If), next)) => if_stat(alloc, cut, left, at, next),
-        Some((Tok::Word(Word::While), next)) => while_stat(alloc, cut, left, at, next),
-        Some((Tok::Word(Word::Do), next)) => do_stat(alloc, cut, left, at, next),
-        Some((Tok::Word(Word::For), next)) => for_stat(alloc, cut, left, at, next),
-        Some((Tok::Word(Word::Repeat), next)) => repeat_stat(alloc, cut, left, at, next),
-        Some((Tok::Word(Word::Function), next)) => function_stat(alloc, cut, left, at, next),
-        Some((Tok::Word(Word::Local), next)) => local_stat(alloc, cut, left, at, next),
-        Some((Tok::Sign(Sign::DoubleColon), next)) => label_stat(cut, at, next),
-        Some((Tok::Word(Word::Goto), next)) => goto_stat(cut, at, next),
-        Some((Tok::Word(Word::Break), to)) => Ok(Stat {
+    if begins_prefix(cut, at) {
+        return expr_stat(alloc, cut, left, at);
+    }
+    if let Some(next) = eat(cut, at, Tok::Word(Word::Local)) {
+        return local_stat(alloc, cut, left, at, next);
+    }
+    if let Some(next) = eat(cut, at, Tok::Word(Word::If)) {
+        return if_stat(alloc, cut, left, at, next);
+    }
+    if let Some(next) = eat(cut, at, Tok::Word(Word::For)) {
+        return for_stat(alloc, cut, left, at, next);
+    }
+    if let Some(next) = eat(cut, at, Tok::Word(Word::Function)) {
+        return function_stat(alloc, cut, left, at, next);
+    }
+    if let Some(next) = eat(cut, at, Tok::Word(Word::While)) {
+        return while_stat(alloc, cut, left, at, next);
+    }
+    if let Some(next) = eat(cut, at, Tok::Word(Word::Do)) {
+        return do_stat(alloc, cut, left, at, next);
+    }
+    if let Some(next) = eat(cut, at, Tok::Word(Word::Repeat)) {
+        return repeat_stat(alloc, cut, left, at, next);
+    }
+    short_stat(cut, at)
+}
+
+/// A statement of words and names alone: `break`, `goto`, a label or a `;`.
+fn short_stat(cut: &Cut, at: u32) -> Result<Stat, ParseErr>
+    ensures ok { IfOk result (λ s. Found (toks_of cut.now) (at + 1) (out-Stat s).to 0 (stat_levels s) (IsStat (toks_of cut.now) at (out-Stat s).to s)) }
+    ensures err { IfErr result (IsRefusal (toks_of cut.now)) }
+    ensures only { IfOk result (Alone (ReadShort (toks_of cut.now) at)) }
+    ensures none { IfErr result (Refutes (ReadShort (toks_of cut.now) at)) }
+{
+    if let Some(to) = eat(cut, at, Tok::Word(Word::Break)) {
+        return Ok(Stat {
             from: at,
             to,
             what: StatKind::Break,
-        }),
-        Some((Tok::Sign(Sign::Semicolon), to)) => Ok(Stat {
+        });
+    }
+    if let Some(to) = eat(cut, at, Tok::Sign(Sign::Semicolon)) {
+        return Ok(Stat {
             from: at,
             to,
             what: StatKind::Empty,
-        }),
-        _ => expr_stat(alloc, cut, left, at),
+        });
     }
+    if let Some(name) = eat(cut, at, Tok::Word(Word::Goto)) {
+        return goto_stat(cut, at, name);
+    }
+    if let Some(name) = eat(cut, at, Tok::Sign(Sign::DoubleColon)) {
+        return label_stat(cut, at, name);
+    }
+    Err(refusal(cut, at))
+}
+
+/// Whether a prefix expression begins at a place.
+fn begins_prefix(cut: &Cut, at: u32) -> bool
+    ensures { result ≡ begins_prefix (slice_get (toks_of cut.now) at) }
+{
+    matches!(
+        cut.token(at),
+        Some(Tok::Name | Tok::Sign(Sign::LeftParen))
+    )
 }
 
 /// `'::' Name '::'` behind its first `::`.

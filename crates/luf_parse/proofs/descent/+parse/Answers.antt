@@ -14,12 +14,11 @@ use Rattle.luf_parse.proofs.ExprParts.{made_block, made_body, made_args, string_
 use Rattle.luf_parse.proofs.StatParts.{arm_found, assign_found, break_found, call_shaped, do_found, else_found, empty_found, for_found, for_in_found, for_step_found, function_stat_found, if_found, local_found, local_function_found, local_values_found, repeat_found, while_found}
 use Rattle.luf_parse.proofs.Exactness.{passes, refutes_by, refutes_form, refutes_first, refutes_next, refutes_triple, alone_form, alone_next, alone_is, alone_triple, then_rest, ok_form, err_form, ahead_more, ahead_last, ahead_end, ahead_refutes, is_at, not_at, list_more, list_last, token_only}
 use Rattle.luf_parse.proofs.ExprForms.{operand_inside, unary_form, power_form, simple_inside, function_form, table_expr_form, leaf_only, prefixed_form, table_form, fields_form, fields_end, keyed_form, named_form, item_form, exprs_form, prefix_form, head_name, head_form, paren_form, suffixes_form, dot_form, index_form, method_form, call_form, args_list, args_lone, lone_string, lone_table, steps_form, operand_form, grown_end, grown_form, made_prefix}
-use Rattle.luf_parse.proofs.StatForms.{begins_word, begins_sign, func_body_form, block_form, stats_form, last_form, stats_end, return_form, arms_form, arm_form, else_form, for_step_form, variable_prefix, targets_last, targets_form, stat_form}
+use Rattle.luf_parse.proofs.StatForms.{begins_word, expr_stat_form, short_form, func_body_form, block_form, stats_form, last_form, stats_end, return_form, arms_form, arm_form, else_form, for_step_form, variable_prefix, targets_last, targets_form, stat_form}
 use Rattle.luf_parse.specs.declared.descent.PrefixExpr.{PrefixExpr}
 use Rattle.luf_parse.specs.declared.descent.Shape.TheVariants.{Variable}
 use Rattle.luf_tree.specs.declared.tree.Args.{Args, roll-Args}
 use Rattle.luf_parse.proofs.descent.+parse.Goals as goal
-use Rattle.luf_parse.proofs.descent.+parse.Goals.{stat-in_default-via-in-Some+in-Word+in_default, stat-in_default-via-in-Some+in-Sign+in_default, stat-in_default-via-in-Some+in_default, stat-in_default-via-in_default}
 
 -- a lone argument, with its list
 abbrev list_made : ℕ → ℕ → List Expr → Args
@@ -390,17 +389,7 @@ repeat_stat-returns-clause-ok t c =
     let h3 = c.in_ok-test.ensures in
     repeat_found c.requires.word h0.ok h1.ok h2.token h3.ok
 
-pub stat-returns-in-Some-Sign-Semicolon-default-clause-ok : goal.stat-returns-in-Some-Sign-Semicolon-default-clause-ok
-stat-returns-in-Some-Sign-Semicolon-default-clause-ok t c =
-    let h0 = c.in-Some-Sign-Semicolon-default.ensures in
-    let t : IsToken (toks_of c.args.cut.now) c.args.at (Sign sign.Semicolon) c.in-Some-Sign-Semicolon-default.to = record { there = cc (h0.token.there, c.in-Some-Sign-Semicolon-default.field-0-0-is, c.in-Some-Sign-Semicolon-default.field-0-0-0-is); next = omega (arith, h0.token.next, c.in-Some-Sign-Semicolon-default.to-is) } in
-    empty_found t (omega (arith, h0.within, c.in-Some-Sign-Semicolon-default.to-is))
 
-pub stat-returns-in-Some-Word-Break-default-clause-ok : goal.stat-returns-in-Some-Word-Break-default-clause-ok
-stat-returns-in-Some-Word-Break-default-clause-ok t c =
-    let h0 = c.in-Some-Word-Break-default.ensures in
-    let t : IsToken (toks_of c.args.cut.now) c.args.at (Word word.Break) c.in-Some-Word-Break-default.to = record { there = cc (h0.token.there, c.in-Some-Word-Break-default.field-0-0-is, c.in-Some-Word-Break-default.field-0-0-0-is); next = omega (arith, h0.token.next, c.in-Some-Word-Break-default.to-is) } in
-    break_found t (omega (arith, h0.within, c.in-Some-Word-Break-default.to-is))
 
 pub suffix-returns-clause-ok : goal.suffix-returns-clause-ok
 suffix-returns-clause-ok t c =
@@ -751,129 +740,27 @@ simple-returns-in_err-found-clause-none t c = passes _ c.from_residual.ensures.1
 pub simple-returns-clause-only : goal.simple-returns-clause-only
 simple-returns-clause-only t c = alone_form (prefixed_form c.in-Some.ensures.token (cc (c.leaf.ensures.kind, c.in_default-leaf.is)) c.in_default-eat.ensures.other (not_at _ c.is_at.ensures c.if-is_at.false)) (alone_next c.in_ok-found.ensures.only (λ y h. h))
 
-pub stat-returns-in-Some-Word-If-default-clause-only : goal.stat-returns-in-Some-Word-If-default-clause-only
-stat-returns-in-Some-Word-If-default-clause-only n c =
-    let h0 = c.in-Some-Word-If-default.ensures in
-    let t : IsToken (toks_of c.args.cut.now) c.args.at (Word word.If) c.in-Some-Word-If-default.next = record { there = cc (c.in-Some-Word-If-default.ensures.token.there, c.in-Some-Word-If-default.field-0-0-is, c.in-Some-Word-If-default.field-0-0-0-is); next = omega (arith, c.in-Some-Word-If-default.ensures.token.next, c.in-Some-Word-If-default.next-is) } in
-    ok_form _ (begins_word t) c.if_stat.ensures.only
 
-pub stat-returns-in-Some-Word-If-default-clause-none : goal.stat-returns-in-Some-Word-If-default-clause-none
-stat-returns-in-Some-Word-If-default-clause-none n c =
-    let h0 = c.in-Some-Word-If-default.ensures in
-    let t : IsToken (toks_of c.args.cut.now) c.args.at (Word word.If) c.in-Some-Word-If-default.next = record { there = cc (c.in-Some-Word-If-default.ensures.token.there, c.in-Some-Word-If-default.field-0-0-is, c.in-Some-Word-If-default.field-0-0-0-is); next = omega (arith, c.in-Some-Word-If-default.ensures.token.next, c.in-Some-Word-If-default.next-is) } in
-    err_form _ (begins_word t) c.if_stat.ensures.none
 
-pub stat-returns-in-Some-Word-While-default-clause-only : goal.stat-returns-in-Some-Word-While-default-clause-only
-stat-returns-in-Some-Word-While-default-clause-only n c =
-    let h0 = c.in-Some-Word-While-default.ensures in
-    let t : IsToken (toks_of c.args.cut.now) c.args.at (Word word.While) c.in-Some-Word-While-default.next = record { there = cc (c.in-Some-Word-While-default.ensures.token.there, c.in-Some-Word-While-default.field-0-0-is, c.in-Some-Word-While-default.field-0-0-0-is); next = omega (arith, c.in-Some-Word-While-default.ensures.token.next, c.in-Some-Word-While-default.next-is) } in
-    ok_form _ (begins_word t) c.while_stat.ensures.only
 
-pub stat-returns-in-Some-Word-While-default-clause-none : goal.stat-returns-in-Some-Word-While-default-clause-none
-stat-returns-in-Some-Word-While-default-clause-none n c =
-    let h0 = c.in-Some-Word-While-default.ensures in
-    let t : IsToken (toks_of c.args.cut.now) c.args.at (Word word.While) c.in-Some-Word-While-default.next = record { there = cc (c.in-Some-Word-While-default.ensures.token.there, c.in-Some-Word-While-default.field-0-0-is, c.in-Some-Word-While-default.field-0-0-0-is); next = omega (arith, c.in-Some-Word-While-default.ensures.token.next, c.in-Some-Word-While-default.next-is) } in
-    err_form _ (begins_word t) c.while_stat.ensures.none
 
-pub stat-returns-in-Some-Word-Do-default-clause-only : goal.stat-returns-in-Some-Word-Do-default-clause-only
-stat-returns-in-Some-Word-Do-default-clause-only n c =
-    let h0 = c.in-Some-Word-Do-default.ensures in
-    let t : IsToken (toks_of c.args.cut.now) c.args.at (Word word.Do) c.in-Some-Word-Do-default.next = record { there = cc (c.in-Some-Word-Do-default.ensures.token.there, c.in-Some-Word-Do-default.field-0-0-is, c.in-Some-Word-Do-default.field-0-0-0-is); next = omega (arith, c.in-Some-Word-Do-default.ensures.token.next, c.in-Some-Word-Do-default.next-is) } in
-    ok_form _ (begins_word t) c.do_stat.ensures.only
 
-pub stat-returns-in-Some-Word-Do-default-clause-none : goal.stat-returns-in-Some-Word-Do-default-clause-none
-stat-returns-in-Some-Word-Do-default-clause-none n c =
-    let h0 = c.in-Some-Word-Do-default.ensures in
-    let t : IsToken (toks_of c.args.cut.now) c.args.at (Word word.Do) c.in-Some-Word-Do-default.next = record { there = cc (c.in-Some-Word-Do-default.ensures.token.there, c.in-Some-Word-Do-default.field-0-0-is, c.in-Some-Word-Do-default.field-0-0-0-is); next = omega (arith, c.in-Some-Word-Do-default.ensures.token.next, c.in-Some-Word-Do-default.next-is) } in
-    err_form _ (begins_word t) c.do_stat.ensures.none
 
-pub stat-returns-in-Some-Word-For-default-clause-only : goal.stat-returns-in-Some-Word-For-default-clause-only
-stat-returns-in-Some-Word-For-default-clause-only n c =
-    let h0 = c.in-Some-Word-For-default.ensures in
-    let t : IsToken (toks_of c.args.cut.now) c.args.at (Word word.For) c.in-Some-Word-For-default.next = record { there = cc (c.in-Some-Word-For-default.ensures.token.there, c.in-Some-Word-For-default.field-0-0-is, c.in-Some-Word-For-default.field-0-0-0-is); next = omega (arith, c.in-Some-Word-For-default.ensures.token.next, c.in-Some-Word-For-default.next-is) } in
-    ok_form _ (begins_word t) c.for_stat.ensures.only
 
-pub stat-returns-in-Some-Word-For-default-clause-none : goal.stat-returns-in-Some-Word-For-default-clause-none
-stat-returns-in-Some-Word-For-default-clause-none n c =
-    let h0 = c.in-Some-Word-For-default.ensures in
-    let t : IsToken (toks_of c.args.cut.now) c.args.at (Word word.For) c.in-Some-Word-For-default.next = record { there = cc (c.in-Some-Word-For-default.ensures.token.there, c.in-Some-Word-For-default.field-0-0-is, c.in-Some-Word-For-default.field-0-0-0-is); next = omega (arith, c.in-Some-Word-For-default.ensures.token.next, c.in-Some-Word-For-default.next-is) } in
-    err_form _ (begins_word t) c.for_stat.ensures.none
 
-pub stat-returns-in-Some-Word-Repeat-default-clause-only : goal.stat-returns-in-Some-Word-Repeat-default-clause-only
-stat-returns-in-Some-Word-Repeat-default-clause-only n c =
-    let h0 = c.in-Some-Word-Repeat-default.ensures in
-    let t : IsToken (toks_of c.args.cut.now) c.args.at (Word word.Repeat) c.in-Some-Word-Repeat-default.next = record { there = cc (c.in-Some-Word-Repeat-default.ensures.token.there, c.in-Some-Word-Repeat-default.field-0-0-is, c.in-Some-Word-Repeat-default.field-0-0-0-is); next = omega (arith, c.in-Some-Word-Repeat-default.ensures.token.next, c.in-Some-Word-Repeat-default.next-is) } in
-    ok_form _ (begins_word t) c.repeat_stat.ensures.only
 
-pub stat-returns-in-Some-Word-Repeat-default-clause-none : goal.stat-returns-in-Some-Word-Repeat-default-clause-none
-stat-returns-in-Some-Word-Repeat-default-clause-none n c =
-    let h0 = c.in-Some-Word-Repeat-default.ensures in
-    let t : IsToken (toks_of c.args.cut.now) c.args.at (Word word.Repeat) c.in-Some-Word-Repeat-default.next = record { there = cc (c.in-Some-Word-Repeat-default.ensures.token.there, c.in-Some-Word-Repeat-default.field-0-0-is, c.in-Some-Word-Repeat-default.field-0-0-0-is); next = omega (arith, c.in-Some-Word-Repeat-default.ensures.token.next, c.in-Some-Word-Repeat-default.next-is) } in
-    err_form _ (begins_word t) c.repeat_stat.ensures.none
 
-pub stat-returns-in-Some-Word-Function-default-clause-only : goal.stat-returns-in-Some-Word-Function-default-clause-only
-stat-returns-in-Some-Word-Function-default-clause-only n c =
-    let h0 = c.in-Some-Word-Function-default.ensures in
-    let t : IsToken (toks_of c.args.cut.now) c.args.at (Word word.Function) c.in-Some-Word-Function-default.next = record { there = cc (c.in-Some-Word-Function-default.ensures.token.there, c.in-Some-Word-Function-default.field-0-0-is, c.in-Some-Word-Function-default.field-0-0-0-is); next = omega (arith, c.in-Some-Word-Function-default.ensures.token.next, c.in-Some-Word-Function-default.next-is) } in
-    ok_form _ (begins_word t) c.function_stat.ensures.only
 
-pub stat-returns-in-Some-Word-Function-default-clause-none : goal.stat-returns-in-Some-Word-Function-default-clause-none
-stat-returns-in-Some-Word-Function-default-clause-none n c =
-    let h0 = c.in-Some-Word-Function-default.ensures in
-    let t : IsToken (toks_of c.args.cut.now) c.args.at (Word word.Function) c.in-Some-Word-Function-default.next = record { there = cc (c.in-Some-Word-Function-default.ensures.token.there, c.in-Some-Word-Function-default.field-0-0-is, c.in-Some-Word-Function-default.field-0-0-0-is); next = omega (arith, c.in-Some-Word-Function-default.ensures.token.next, c.in-Some-Word-Function-default.next-is) } in
-    err_form _ (begins_word t) c.function_stat.ensures.none
 
-pub stat-returns-in-Some-Word-Local-default-clause-only : goal.stat-returns-in-Some-Word-Local-default-clause-only
-stat-returns-in-Some-Word-Local-default-clause-only n c =
-    let h0 = c.in-Some-Word-Local-default.ensures in
-    let t : IsToken (toks_of c.args.cut.now) c.args.at (Word word.Local) c.in-Some-Word-Local-default.next = record { there = cc (c.in-Some-Word-Local-default.ensures.token.there, c.in-Some-Word-Local-default.field-0-0-is, c.in-Some-Word-Local-default.field-0-0-0-is); next = omega (arith, c.in-Some-Word-Local-default.ensures.token.next, c.in-Some-Word-Local-default.next-is) } in
-    ok_form _ (begins_word t) c.local_stat.ensures.only
 
-pub stat-returns-in-Some-Word-Local-default-clause-none : goal.stat-returns-in-Some-Word-Local-default-clause-none
-stat-returns-in-Some-Word-Local-default-clause-none n c =
-    let h0 = c.in-Some-Word-Local-default.ensures in
-    let t : IsToken (toks_of c.args.cut.now) c.args.at (Word word.Local) c.in-Some-Word-Local-default.next = record { there = cc (c.in-Some-Word-Local-default.ensures.token.there, c.in-Some-Word-Local-default.field-0-0-is, c.in-Some-Word-Local-default.field-0-0-0-is); next = omega (arith, c.in-Some-Word-Local-default.ensures.token.next, c.in-Some-Word-Local-default.next-is) } in
-    err_form _ (begins_word t) c.local_stat.ensures.none
 
-pub stat-returns-in-Some-Word-Goto-default-clause-only : goal.stat-returns-in-Some-Word-Goto-default-clause-only
-stat-returns-in-Some-Word-Goto-default-clause-only n c =
-    let h0 = c.in-Some-Word-Goto-default.ensures in
-    let t : IsToken (toks_of c.args.cut.now) c.args.at (Word word.Goto) c.in-Some-Word-Goto-default.next = record { there = cc (c.in-Some-Word-Goto-default.ensures.token.there, c.in-Some-Word-Goto-default.field-0-0-is, c.in-Some-Word-Goto-default.field-0-0-0-is); next = omega (arith, c.in-Some-Word-Goto-default.ensures.token.next, c.in-Some-Word-Goto-default.next-is) } in
-    ok_form _ (begins_word t) c.goto_stat.ensures.only
 
-pub stat-returns-in-Some-Word-Goto-default-clause-none : goal.stat-returns-in-Some-Word-Goto-default-clause-none
-stat-returns-in-Some-Word-Goto-default-clause-none n c =
-    let h0 = c.in-Some-Word-Goto-default.ensures in
-    let t : IsToken (toks_of c.args.cut.now) c.args.at (Word word.Goto) c.in-Some-Word-Goto-default.next = record { there = cc (c.in-Some-Word-Goto-default.ensures.token.there, c.in-Some-Word-Goto-default.field-0-0-is, c.in-Some-Word-Goto-default.field-0-0-0-is); next = omega (arith, c.in-Some-Word-Goto-default.ensures.token.next, c.in-Some-Word-Goto-default.next-is) } in
-    err_form _ (begins_word t) c.goto_stat.ensures.none
 
-pub stat-returns-in-Some-Sign-DoubleColon-default-clause-only : goal.stat-returns-in-Some-Sign-DoubleColon-default-clause-only
-stat-returns-in-Some-Sign-DoubleColon-default-clause-only n c =
-    let h0 = c.in-Some-Sign-DoubleColon-default.ensures in
-    let t : IsToken (toks_of c.args.cut.now) c.args.at (Sign sign.DoubleColon) c.in-Some-Sign-DoubleColon-default.next = record { there = cc (c.in-Some-Sign-DoubleColon-default.ensures.token.there, c.in-Some-Sign-DoubleColon-default.field-0-0-is, c.in-Some-Sign-DoubleColon-default.field-0-0-0-is); next = omega (arith, c.in-Some-Sign-DoubleColon-default.ensures.token.next, c.in-Some-Sign-DoubleColon-default.next-is) } in
-    ok_form _ (begins_sign t) c.label_stat.ensures.only
 
-pub stat-returns-in-Some-Sign-DoubleColon-default-clause-none : goal.stat-returns-in-Some-Sign-DoubleColon-default-clause-none
-stat-returns-in-Some-Sign-DoubleColon-default-clause-none n c =
-    let h0 = c.in-Some-Sign-DoubleColon-default.ensures in
-    let t : IsToken (toks_of c.args.cut.now) c.args.at (Sign sign.DoubleColon) c.in-Some-Sign-DoubleColon-default.next = record { there = cc (c.in-Some-Sign-DoubleColon-default.ensures.token.there, c.in-Some-Sign-DoubleColon-default.field-0-0-is, c.in-Some-Sign-DoubleColon-default.field-0-0-0-is); next = omega (arith, c.in-Some-Sign-DoubleColon-default.ensures.token.next, c.in-Some-Sign-DoubleColon-default.next-is) } in
-    err_form _ (begins_sign t) c.label_stat.ensures.none
 
-pub stat-returns-in-Some-Word-Break-default-clause-only : goal.stat-returns-in-Some-Word-Break-default-clause-only
-stat-returns-in-Some-Word-Break-default-clause-only n c =
-    let t : IsToken (toks_of c.args.cut.now) c.args.at (Word word.Break) c.in-Some-Word-Break-default.to = record { there = cc (c.in-Some-Word-Break-default.ensures.token.there, c.in-Some-Word-Break-default.field-0-0-is, c.in-Some-Word-Break-default.field-0-0-0-is); next = omega (arith, c.in-Some-Word-Break-default.ensures.token.next, c.in-Some-Word-Break-default.to-is) } in
-    begins_word t
 
-pub stat-returns-in-Some-Sign-Semicolon-default-clause-only : goal.stat-returns-in-Some-Sign-Semicolon-default-clause-only
-stat-returns-in-Some-Sign-Semicolon-default-clause-only n c =
-    let t : IsToken (toks_of c.args.cut.now) c.args.at (Sign sign.Semicolon) c.in-Some-Sign-Semicolon-default.to = record { there = cc (c.in-Some-Sign-Semicolon-default.ensures.token.there, c.in-Some-Sign-Semicolon-default.field-0-0-is, c.in-Some-Sign-Semicolon-default.field-0-0-0-is); next = omega (arith, c.in-Some-Sign-Semicolon-default.ensures.token.next, c.in-Some-Sign-Semicolon-default.to-is) } in
-    begins_sign t
 
-pub stat-returns-in_default-clause-only : goal.stat-returns-in_default-clause-only
-stat-returns-in_default-clause-only t c = ok_form _ (λ s h. elim c.in_default.branch [ stat-in_default-via-in-Some+in-Word+in_default w ↦ let d = w.in_default.is in let e = w.in_default.ensures in let f = w.in_default.in-And-own in let g = w.in_default.t16-in-Word-1-own in ? | stat-in_default-via-in-Some+in-Sign+in_default w ↦ ? | stat-in_default-via-in-Some+in_default w ↦ ? | stat-in_default-via-in_default w ↦ ? ]) c.expr_stat.ensures.only
 
-pub stat-returns-in_default-clause-none : goal.stat-returns-in_default-clause-none
-stat-returns-in_default-clause-none t c = err_form _ ? c.expr_stat.ensures.none
 
 pub suffix-returns-in_err-to-clause-none : goal.suffix-returns-in_err-to-clause-none
 suffix-returns-in_err-to-clause-none t c = passes _ c.from_residual.ensures.1 (refutes_form (dot_form c.in-Some.ensures.token) (refutes_first c.in_err-to.ensures.none))
@@ -961,3 +848,105 @@ simple-returns-then-is_at-clause-only t c = ok_form _ (table_expr_form (is_at _ 
 
 pub simple-returns-then-is_at-clause-none : goal.simple-returns-then-is_at-clause-none
 simple-returns-then-is_at-clause-none t c = err_form _ (table_expr_form (is_at _ c.is_at.ensures c.if-is_at.true)) c.table_expr.ensures.none
+
+pub stat-returns-in-Some-clause-only : goal.stat-returns-in-Some-clause-only
+stat-returns-in-Some-clause-only t c = ok_form _ (begins_word c.in-Some.ensures.token) c.local_stat.ensures.only
+
+pub stat-returns-in-Some-clause-none : goal.stat-returns-in-Some-clause-none
+stat-returns-in-Some-clause-none t c = err_form _ (begins_word c.in-Some.ensures.token) c.local_stat.ensures.none
+
+pub stat-returns-in-Some-eat-clause-only : goal.stat-returns-in-Some-eat-clause-only
+stat-returns-in-Some-eat-clause-only t c = ok_form _ (begins_word c.in-Some-eat.ensures.token) c.if_stat.ensures.only
+
+pub stat-returns-in-Some-eat-clause-none : goal.stat-returns-in-Some-eat-clause-none
+stat-returns-in-Some-eat-clause-none t c = err_form _ (begins_word c.in-Some-eat.ensures.token) c.if_stat.ensures.none
+
+pub stat-returns-in-Some-eat-2-clause-only : goal.stat-returns-in-Some-eat-2-clause-only
+stat-returns-in-Some-eat-2-clause-only t c = ok_form _ (begins_word c.in-Some-eat-2.ensures.token) c.for_stat.ensures.only
+
+pub stat-returns-in-Some-eat-2-clause-none : goal.stat-returns-in-Some-eat-2-clause-none
+stat-returns-in-Some-eat-2-clause-none t c = err_form _ (begins_word c.in-Some-eat-2.ensures.token) c.for_stat.ensures.none
+
+pub stat-returns-in-Some-eat-3-clause-only : goal.stat-returns-in-Some-eat-3-clause-only
+stat-returns-in-Some-eat-3-clause-only t c = ok_form _ (begins_word c.in-Some-eat-3.ensures.token) c.function_stat.ensures.only
+
+pub stat-returns-in-Some-eat-3-clause-none : goal.stat-returns-in-Some-eat-3-clause-none
+stat-returns-in-Some-eat-3-clause-none t c = err_form _ (begins_word c.in-Some-eat-3.ensures.token) c.function_stat.ensures.none
+
+pub stat-returns-in-Some-eat-4-clause-only : goal.stat-returns-in-Some-eat-4-clause-only
+stat-returns-in-Some-eat-4-clause-only t c = ok_form _ (begins_word c.in-Some-eat-4.ensures.token) c.while_stat.ensures.only
+
+pub stat-returns-in-Some-eat-4-clause-none : goal.stat-returns-in-Some-eat-4-clause-none
+stat-returns-in-Some-eat-4-clause-none t c = err_form _ (begins_word c.in-Some-eat-4.ensures.token) c.while_stat.ensures.none
+
+pub stat-returns-in-Some-eat-5-clause-only : goal.stat-returns-in-Some-eat-5-clause-only
+stat-returns-in-Some-eat-5-clause-only t c = ok_form _ (begins_word c.in-Some-eat-5.ensures.token) c.do_stat.ensures.only
+
+pub stat-returns-in-Some-eat-5-clause-none : goal.stat-returns-in-Some-eat-5-clause-none
+stat-returns-in-Some-eat-5-clause-none t c = err_form _ (begins_word c.in-Some-eat-5.ensures.token) c.do_stat.ensures.none
+
+pub stat-returns-in-Some-eat-6-clause-only : goal.stat-returns-in-Some-eat-6-clause-only
+stat-returns-in-Some-eat-6-clause-only t c = ok_form _ (begins_word c.in-Some-eat-6.ensures.token) c.repeat_stat.ensures.only
+
+pub stat-returns-in-Some-eat-6-clause-none : goal.stat-returns-in-Some-eat-6-clause-none
+stat-returns-in-Some-eat-6-clause-none t c = err_form _ (begins_word c.in-Some-eat-6.ensures.token) c.repeat_stat.ensures.none
+
+pub stat-returns-then-begins_prefix-clause-only : goal.stat-returns-then-begins_prefix-clause-only
+stat-returns-then-begins_prefix-clause-only t c = ok_form _ (expr_stat_form (sym c.begins_prefix.ensures ∙ c.if-begins_prefix.true)) c.expr_stat.ensures.only
+
+pub stat-returns-clause-only : goal.stat-returns-clause-only
+stat-returns-clause-only t c = ok_form _ (short_form (sym c.begins_prefix.ensures ∙ c.if-begins_prefix.false) c.in_default.ensures.other c.in_default-eat.ensures.other c.in_default-eat-2.ensures.other c.in_default-eat-3.ensures.other c.in_default-eat-4.ensures.other c.in_default-eat-5.ensures.other c.in_default-eat-6.ensures.other) c.short_stat.ensures.only
+
+pub stat-returns-then-begins_prefix-clause-none : goal.stat-returns-then-begins_prefix-clause-none
+stat-returns-then-begins_prefix-clause-none t c = err_form _ (expr_stat_form (sym c.begins_prefix.ensures ∙ c.if-begins_prefix.true)) c.expr_stat.ensures.none
+
+pub stat-returns-clause-none : goal.stat-returns-clause-none
+stat-returns-clause-none t c = err_form _ (short_form (sym c.begins_prefix.ensures ∙ c.if-begins_prefix.false) c.in_default.ensures.other c.in_default-eat.ensures.other c.in_default-eat-2.ensures.other c.in_default-eat-3.ensures.other c.in_default-eat-4.ensures.other c.in_default-eat-5.ensures.other c.in_default-eat-6.ensures.other) c.short_stat.ensures.none
+
+pub args-returns-in_err-item-clause-none : goal.args-returns-in_err-item-clause-none
+args-returns-in_err-item-clause-none t c = passes _ c.from_residual.ensures.1 (refutes_form (args_lone c.in_default.ensures.other) (refutes_first c.in_err-item.ensures.none))
+
+pub count_stat-returns-in_err-inside-clause-none : goal.count_stat-returns-in_err-inside-clause-none
+count_stat-returns-in_err-inside-clause-none t c = passes _ c.from_residual-in_err-inside.ensures.1 (refutes_next c.in_ok-first.ensures.only (refutes_next c.in_ok-second.ensures.only (refutes_next c.in_ok-limit.ensures.only (refutes_next c.in_ok-step.ensures.only (refutes_first c.in_err-inside.ensures.none)))))
+
+pub count_stat-returns-in_err-body-clause-none : goal.count_stat-returns-in_err-body-clause-none
+count_stat-returns-in_err-body-clause-none t c = passes _ c.from_residual-in_err-body.ensures.1 (refutes_next c.in_ok-first.ensures.only (refutes_next c.in_ok-second.ensures.only (refutes_next c.in_ok-limit.ensures.only (refutes_next c.in_ok-step.ensures.only (refutes_next c.in_ok-inside.ensures.only (refutes_first c.in_err-body.ensures.none))))))
+
+pub count_stat-returns-clause-only : goal.count_stat-returns-clause-only
+count_stat-returns-clause-only t c = alone_next c.in_ok-first.ensures.only (alone_next c.in_ok-second.ensures.only (alone_next c.in_ok-limit.ensures.only (alone_next c.in_ok-step.ensures.only (alone_next c.in_ok-inside.ensures.only (alone_next c.in_ok-body.ensures.only ((λ y h. h)))))))
+
+pub field-returns-in-Some-clause-only : goal.field-returns-in-Some-clause-only
+field-returns-in-Some-clause-only t c = ok_form _ (keyed_form c.in-Some.ensures.token) c.keyed.ensures.only
+
+pub field-returns-in-Some-clause-none : goal.field-returns-in-Some-clause-none
+field-returns-in-Some-clause-none t c = err_form _ (keyed_form c.in-Some.ensures.token) c.keyed.ensures.none
+
+pub field-returns-in_err-value-clause-none : goal.field-returns-in_err-value-clause-none
+field-returns-in_err-value-clause-none t c = passes _ c.from_residual.ensures.1 (refutes_form (named_form c.in-Some-assigned.ensures.some.name c.in-Some-assigned.ensures.some.sign) (refutes_first c.in_err-value.ensures.none))
+
+pub field-returns-in-Some-assigned-clause-only : goal.field-returns-in-Some-assigned-clause-only
+field-returns-in-Some-assigned-clause-only t c = alone_form (named_form c.in-Some-assigned.ensures.some.name c.in-Some-assigned.ensures.some.sign) (alone_next c.in_ok-value.ensures.only ((λ y h. h)))
+
+pub field-returns-in_err-value-2-clause-none : goal.field-returns-in_err-value-2-clause-none
+field-returns-in_err-value-2-clause-none t c = passes _ c.from_residual-in_err-value-2.ensures.1 (refutes_form (item_form c.in_default.ensures.other c.in_default-assigned.ensures.none) (refutes_first c.in_err-value-2.ensures.none))
+
+pub field-returns-clause-only : goal.field-returns-clause-only
+field-returns-clause-only t c = alone_form (item_form c.in_default.ensures.other c.in_default-assigned.ensures.none) (alone_next c.in_ok-value-2.ensures.only ((λ y h. h)))
+
+pub for_stat-returns-in_err-body-clause-none : goal.for_stat-returns-in_err-body-clause-none
+for_stat-returns-in_err-body-clause-none t c = passes _ c.from_residual-in_err-body.ensures.1 (refutes_form (λ y h. h.names c.in_default.ensures.none) (refutes_next c.in_ok-names.ensures.only (refutes_next c.in_ok-from.ensures.only (refutes_next c.in_ok-values.ensures.only (refutes_next c.in_ok-inside.ensures.only (refutes_first c.in_err-body.ensures.none))))))
+
+pub for_stat-returns-clause-only : goal.for_stat-returns-clause-only
+for_stat-returns-clause-only t c = alone_form (λ y h. h.names c.in_default.ensures.none) (alone_next c.in_ok-names.ensures.only (alone_next c.in_ok-from.ensures.only (alone_next c.in_ok-values.ensures.only (alone_next c.in_ok-inside.ensures.only (alone_next c.in_ok-body.ensures.only ((λ y h. h)))))))
+
+pub last-returns-in_err-next-clause-none : goal.last-returns-in_err-next-clause-none
+last-returns-in_err-next-clause-none t c = passes _ c.from_residual.ensures.1 (refutes_form return_form (refutes_first c.in_err-next.ensures.none))
+
+pub last-returns-then-ends_return-clause-only : goal.last-returns-then-ends_return-clause-only
+last-returns-then-ends_return-clause-only t c = alone_form return_form (alone_next c.in_ok-next.ensures.only (alone_form (λ y h. h.empty (sym c.ends_return.ensures ∙ c.if-ends_return.true)) (alone_next c.semicolon.ensures.only (alone_is (ap (λ es. statement c.args.at c.semicolon.result (stat.Return es)) (sym c.new.ensures))))))
+
+pub last-returns-in_err-values-clause-none : goal.last-returns-in_err-values-clause-none
+last-returns-in_err-values-clause-none t c = passes _ c.from_residual-in_err-values.ensures.1 (refutes_form return_form (refutes_next c.in_ok-next.ensures.only (refutes_form (λ y h. h.values (sym c.ends_return.ensures ∙ c.if-ends_return.false)) (refutes_first c.in_err-values.ensures.none))))
+
+pub last-returns-clause-only : goal.last-returns-clause-only
+last-returns-clause-only t c = alone_form return_form (alone_next c.in_ok-next.ensures.only (alone_form (λ y h. h.values (sym c.ends_return.ensures ∙ c.if-ends_return.false)) (alone_next c.in_ok-values.ensures.only (alone_next c.semicolon-2.ensures.only (λ y h. h)))))

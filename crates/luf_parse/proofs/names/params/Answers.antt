@@ -2,16 +2,19 @@ use Rattle.std.proofs.Common.{true, false, arith}
 use Rattle.luf_lex.specs.Tokens.{toks_of}
 use Rattle.luf_tree.specs.Grammar.{AreNames, one_name, more_names, AreParams, no_params, dots_alone, names_alone, names_and_dots}
 use Rattle.luf_parse.proofs.Joining.{joins_none, joins_more, joins_last, nothing}
+use Rattle.luf_parse.proofs.Exactness.{passes, refutes_by, refutes_form, refutes_triple, alone_triple, ahead_start, ahead_more, ahead_last, ahead_refutes, is_at}
+use Rattle.luf_parse.proofs.NameForms.{params_named, params_more, params_last, params_dots}
 use Rattle.luf_parse.proofs.names.params.Goals as goal
 
 pub loop-found-init : goal.loop-found-init
-loop-found-init c = record { joins = joins_none (AreNames (toks_of c.args.cut.now)) c.args.at _ c.new-found.ensures; forward = omega arith }
+loop-found-init c = record { ahead = ahead_start c.new-found.ensures (params_named (is_at _ c.is_at.ensures c.if-not-is_at.false)); joins = joins_none (AreNames (toks_of c.args.cut.now)) c.args.at _ c.new-found.ensures; forward = omega arith }
 
 pub loop-found-preserved : goal.loop-found-preserved
 loop-found-preserved c =
     let h0 = c.in_ok-to.ensures in
     let h1 = c.in-Some-eat.ensures in
     record {
+      ahead = ahead_more _ c.loop-found.invariant.ahead c.in_ok-push.ensures.ok (params_more c.in_ok-to.ensures.token c.in-Some-eat.ensures.token c.in_default-eat-2.ensures.other);
       joins = joins_more (AreNames (toks_of c.args.cut.now)) _ _ _ _ _ _ c.loop-found.invariant.joins c.in_ok-push.ensures.ok (λ k rest h. more_names h0.token h1.token h);
       forward = omega arith;
     }
@@ -42,3 +45,14 @@ returns-in-Some-eat-2-clause-ok c =
     let h1 = c.in-Some-eat.ensures in
     let h2 = c.in-Some-eat-2.ensures in
     record { derived = names_and_dots (joins_last (AreNames (toks_of c.args.cut.now)) _ _ _ _ _ _ c.loop-found.invariant.joins c.in_ok-push.ensures.ok (one_name h0.token)) h1.token h2.token; forward = omega arith; within = omega arith; level = omega arith }
+
+pub returns-in_err-to-clause-none : goal.returns-in_err-to-clause-none
+returns-in_err-to-clause-none c = passes _ c.from_residual.ensures.1 (refutes_triple _ (ahead_refutes _ c.loop-found.invariant.ahead (refutes_by (λ r q. (_, q.name)) c.in_err-to.ensures.none)))
+
+pub returns-in_default-eat-clause-only : goal.returns-in_default-eat-clause-only
+returns-in_default-eat-clause-only c =
+    alone_triple _ (ahead_last _ c.loop-found.invariant.ahead c.in_ok-push.ensures.ok (params_last c.in_ok-to.ensures.token c.in_default-eat.ensures.other))
+
+pub returns-in-Some-eat-2-clause-only : goal.returns-in-Some-eat-2-clause-only
+returns-in-Some-eat-2-clause-only c =
+    alone_triple _ (ahead_last _ c.loop-found.invariant.ahead c.in_ok-push.ensures.ok (params_dots c.in_ok-to.ensures.token c.in-Some-eat.ensures.token c.in-Some-eat-2.ensures.token))

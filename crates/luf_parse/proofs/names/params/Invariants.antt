@@ -1,12 +1,15 @@
 use Rattle.std.proofs.Common.{◌-◌, ◌≤◌, length}
 use Rattle.luf_lex.specs.Tokens.{toks_of}
 use Rattle.luf_tree.specs.Grammar.{AreNames}
+use Rattle.luf_parse.proofs.NameForms.{ParamsRead, ReadNamed}
+use Rattle.luf_parse.proofs.Exactness.{Ahead}
 use Rattle.luf_parse.proofs.Joining.{Joins}
 use Rattle.luf_parse.proofs.names.params.Given as goal
 
 -- the names so far stand before those of the rest
 abbrev pub invariant-loop-found : goal.invariant-loop-found
 invariant-loop-found l = record {
+  ahead : Ahead (ParamsRead (toks_of l.cut) l.fn.at) l.found (ReadNamed (toks_of l.cut) l.at);
   joins : Joins (AreNames (toks_of l.cut)) l.fn.at l.at l.found;
   forward : l.fn.at ≤ l.at;
 }

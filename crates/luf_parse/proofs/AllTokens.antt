@@ -1,0 +1,38 @@
+-- All tokens: what refutes their block refutes each tree.
+use Rattle.std.proofs.Common.{◌≡◌, ℕ, ◌≤◌, Option, None, List, length, sym, ap, ◌∙◌, subst, arith}
+use Rattle.std.specs.Prelude.{slice_get}
+use Rattle.std.proofs.lemmas.Option.{slice_get_past}
+use Rattle.luf_lex.specs.declared.token.Tok.{Tok}
+use Rattle.luf_tree.specs.declared.tree.Block.{Block, out-Block}
+use Rattle.luf_tree.specs.declared.tree.Chunk.{Chunk}
+use Rattle.luf_tree.specs.Grammar.{IsBlock, IsChunk}
+use Rattle.luf_tree.specs.Level.{depth_of}
+use Rattle.luf_parse.specs.Cause.{HasNoTree, IsCause}
+use Rattle.luf_parse.specs.Exact.{Alone, Refutes}
+use Rattle.luf_parse.specs.Follow.{ends_block, EndsBlock}
+use Rattle.luf_parse.specs.Parts.{ReadBlock}
+use Rattle.luf_parse.specs.Reads.{IsRefusal}
+use Rattle.luf_parse.specs.declared.error.ParseErr.{ParseErr}
+use Rattle.luf_parse.specs.declared.error.ParseErr.TheVariants as error
+use Rattle.luf_parse.proofs.Ends.{block_to}
+
+chunk_read : {toks : List Tok} (c : Chunk) → IsChunk toks c → depth_of c ≤ 200 → ReadBlock toks 200 0 c.block
+chunk_read {toks} c tree depth = record {
+    is = subst (λ p. IsBlock toks 0 p c.block) (sym (block_to tree)) tree;
+    ends = ap ends_block (ap (slice_get toks) (block_to tree) ∙ slice_get_past toks (length toks) (omega arith));
+    level = depth;
+  }
+
+cause : {toks : List Tok} (e : ParseErr) → IsRefusal toks e → ((e ≡ error.Memory → ⊥) → HasNoTree toks) → IsCause toks e
+cause (error.Syntax t) within none = (within, none (λ z. cc))
+cause (error.TooDeep t) within none = (within, none (λ z. cc))
+cause error.Memory within none = tt
+
+-- the block of all tokens is refuted
+pub refused_cause : {toks : List Tok} {e : ParseErr} → IsRefusal toks e → Refutes (ReadBlock toks 200 0) e → IsCause toks e
+refused_cause {toks} {e} within none = cause e within (λ known c tree depth. none.nothing known c.block (chunk_read c tree depth))
+
+-- the one block that there is does not have all tokens
+pub short_cause : {toks : List Tok} {b : Block} (e : ParseErr) → IsRefusal toks e → Alone (ReadBlock toks 200 0) b → ((out-Block b).to ≡ length toks → ⊥) → IsCause toks e
+short_cause {toks} {b} e within only short =
+    cause e within (λ known c tree depth. short (ap (λ (z : Block). (out-Block z).to) (sym (only c.block (chunk_read c tree depth))) ∙ block_to tree))
