@@ -1,4 +1,7 @@
 pub mod Words
 pub mod Signs
 pub mod Numerals
+pub mod Strings
+pub mod SignEnds
+pub mod Three
 pub mod Before

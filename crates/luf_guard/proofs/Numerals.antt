@@ -327,3 +327,7 @@ numeral_before a x h stop =
 pub numeral_ends : (k : Kind) (a b : List ℕ) → HasNumeralForm a → begins goes_word b ≡ true → IsFirst (a ++ b) k (length a) → ⊥
 numeral_ends k a b h more first =
     omega (arith, first.numeral (numeral_group (a ++ b) (front_more a b (form_front a h))), form_goes_on a b h more)
+
+pub numeral_some : (a : List ℕ) → HasNumeralForm a → 0 < length a
+numeral_some [] h = absurd (false≢true (form_front [] h))
+numeral_some (b ∷ a) h = omega arith

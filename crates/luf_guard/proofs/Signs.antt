@@ -73,3 +73,11 @@ pub sign_before : (s : Sign) (x : List ℕ) → begins (sign_goes_on s) x ≡ fa
 sign_before s x stop bracket =
     let classes = sign_classes s x in
     sign_first (sign_spelling s ++ x) s (length (sign_spelling s)) (sign_group s x stop bracket) classes.0 classes.1 classes.2 refl (take-append_seam (sign_spelling s) x) (λ other more is. none_longer s other x stop more is)
+
+pub sign_some : (s : Sign) → 0 < length (sign_spelling s)
+sign_some Plus = omega arith
+sign_some _ = omega arith
+
+pub sign_space : (s : Sign) → sign_goes_on s 32 ≡ false
+sign_space Plus = refl
+sign_space _ = refl
