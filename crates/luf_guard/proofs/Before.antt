@@ -69,7 +69,7 @@ token_ends Long k a [] h more first = false≢true more
 token_ends Long k a (c ∷ b) h more first = false≢true more
 
 -- what does not begin with `[`, nor with `=`, makes no long bracket with a `[` before it
-no_bracket : (x : List ℕ) → begins (λ c. eqb c 91) x ≡ false → begins (λ c. eqb c 61) x ≡ false → opens_long (91 ∷ x) ≡ false
+pub no_bracket : (x : List ℕ) → begins (λ c. eqb c 91) x ≡ false → begins (λ c. eqb c 61) x ≡ false → opens_long (91 ∷ x) ≡ false
 no_bracket x bracket equal = let none : prefix_len (λ c. eqb c 61) x ≡ 0 = run_before (λ c. eqb c 61) [] x refl equal in ap (λ n. begins (λ c. eqb c 91) (drop n x)) none ∙ bracket
 
 -- A token that stands apart from the next one stops before any text that begins with the next one. Only a `[` needs to

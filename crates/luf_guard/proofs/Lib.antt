@@ -5,3 +5,4 @@ pub mod Strings
 pub mod SignEnds
 pub mod Three
 pub mod Before
+pub mod Needed
