@@ -85,4 +85,3 @@ apart_stops t u a b x h g apart bracket =
           (begins_front (λ c. eqb c 91) b x some ∙ subst (λ v. begins (goes_on v) b ≡ false) e stop)
           (begins_front (λ c. eqb c 61) b x some ∙ bracket e);
     }
-

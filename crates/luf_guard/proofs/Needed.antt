@@ -1,7 +1,7 @@
 -- What the code decides by the bytes is whether two tokens need a space.
-use Rattle.std.proofs.Common.{◌≡◌, ℕ, ◌<◌, ◌⊎◌, ◌↔◌, inl, inr, Bool, true, false, cond, eqb, ◌&&◌, ◌||◌, List, [], ◌∷◌, ◌++◌, length, append-nil, refl, sym, ap, ◌∙◌, subst, arith}
+use Rattle.std.proofs.Common.{◌≡◌, ℕ, ◌<◌, ◌⊎◌, ◌↔◌, inl, inr, Bool, true, false, eqb, ◌&&◌, List, [], ◌∷◌, ◌++◌, length, append-nil, refl, sym, ap, ◌∙◌, subst, arith}
 use Rattle.std.specs.Prelude.{IsTrue}
-use Rattle.std.proofs.lemmas.Bool.{and_left, and_parts, or_cases, or_from, cond-true, cond-false, eqb-true, false_from_ne_true, false≢true}
+use Rattle.std.proofs.lemmas.Bool.{and_left, and_parts, or_cases, or_from, cond-true, cond-false, eqb-true, false≢true}
 use Rattle.std.proofs.lemmas.Bool.Decides.{nat_tests}
 use Rattle.luf_num.specs.Digit.{is_digit}
 use Rattle.luf_str.specs.Bytes.{is_quote}
@@ -18,12 +18,12 @@ use Rattle.luf_lex.specs.declared.token.Kind.TheVariants.{Token}
 use Rattle.luf_lex.proofs.PlainLemmas.{keyword_letter, sign_no_blank}
 use Rattle.luf_lex.proofs.BracketLemmas.{long_opens}
 use Rattle.luf_guard.specs.Space.{IsSpelling, StandApart, NeedSpace}
-use Rattle.luf_guard.specs.Joins.{goes_word, goes_on, sign_goes_on, sign_joins, joins, is_needed}
+use Rattle.luf_guard.specs.Joins.{goes_on, sign_goes_on, sign_joins, joins, is_needed}
 use Rattle.luf_guard.proofs.Words.{begins_front}
 use Rattle.luf_guard.proofs.Numerals.{form_front}
 use Rattle.luf_guard.proofs.Strings.{short_some, short_quote, long_some}
 use Rattle.luf_guard.proofs.Three.{apart_first, stand_apart}
-use Rattle.luf_guard.proofs.Before.{Stops, first_before, spelled_some, stops_nothing, token_ends, no_bracket}
+use Rattle.luf_guard.proofs.Before.{first_before, spelled_some, stops_nothing, token_ends, no_bracket}
 
 -- ---- what a token begins with
 

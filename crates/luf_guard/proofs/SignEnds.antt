@@ -1,13 +1,12 @@
 -- Signs before what makes a longer piece of them.
-use Rattle.std.proofs.Common.{◌≡◌, ℕ, ◌+◌, ◌<◌, ◌≤◌, ◌⊎◌, inl, inr, true, false, eqb, ◌||◌, List, [], ◌∷◌, ◌++◌, length, take, refl, sym, ap, ◌∙◌, subst, arith}
-use Rattle.std.proofs.Math.Seq.{take-append_seam}
+use Rattle.std.proofs.Common.{◌≡◌, ℕ, ◌+◌, ◌<◌, ◌≤◌, ◌⊎◌, inl, inr, true, eqb, List, [], ◌∷◌, ◌++◌, length, take, refl, sym, ap, ◌∙◌, subst, arith}
 use Rattle.std.proofs.lemmas.Bool.{or_cases, or_left, or_right, eqb-true, false≢true}
 use Rattle.luf_num.specs.Digit.{is_digit}
 use Rattle.luf_num.specs.Numeral.{is_decimal_mark}
 use Rattle.luf_lex.specs.Byte.{is_letter, begins}
 use Rattle.luf_lex.specs.Sign.{sign_spelling}
-use Rattle.luf_lex.specs.Spelling.{Spells, opens_long}
-use Rattle.luf_lex.specs.First.{IsFirst, is_tried, group_of, numeral_tail, Commented, Bracketed, Numeric, Other}
+use Rattle.luf_lex.specs.Spelling.{Spells}
+use Rattle.luf_lex.specs.First.{IsFirst, is_tried, group_of, numeral_tail, Numeric, Other}
 use Rattle.luf_lex.specs.declared.token.Tok.TheVariants as tok
 use Rattle.luf_lex.specs.declared.token.Sign.{Sign}
 use Rattle.luf_lex.specs.declared.token.Sign.TheVariants.{Minus, Slash, Tilde, ShiftLeft, ShiftRight, SlashSlash, Equal, NotEqual, LessEqual, GreaterEqual, Less, Greater, Assign, LeftBracket, DoubleColon, Colon, Dot, DotDot, Dots}

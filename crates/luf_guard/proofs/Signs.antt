@@ -1,20 +1,17 @@
 -- Signs before what makes no longer one of them.
-use Rattle.std.proofs.Common.{◌≡◌, ℕ, ◌+◌, ◌<◌, ◌≤◌, Bool, true, false, cond, eqb, ltb, ◌&&◌, ◌||◌, List, [], ◌∷◌, ◌++◌, length, length-append, take, drop, get_or, refl, sym, ap, ◌∙◌, subst, arith}
-use Rattle.std.specs.List.{list_all, prefix_len}
-use Rattle.std.proofs.Math.Seq.{take-append_seam, take-append-add}
-use Rattle.std.proofs.lemmas.Bool.{and_left, and_parts, and_from, cond-true, cond-false, or_parts, lt-ltb, false≢true}
+use Rattle.std.proofs.Common.{◌≡◌, ℕ, ◌<◌, ◌≤◌, Bool, true, false, cond, eqb, ltb, ◌&&◌, List, [], ◌∷◌, ◌++◌, length, take, drop, get_or, refl, sym, ap, ◌∙◌, arith}
+use Rattle.std.proofs.Math.Seq.{take-append_seam}
+use Rattle.std.proofs.lemmas.Bool.{and_from, cond-true, cond-false, or_parts, lt-ltb, false≢true}
 use Rattle.std.proofs.lemmas.Bool.Decides.{nat_tests}
 use Rattle.luf_num.specs.Digit.{is_digit}
-use Rattle.luf_str.specs.Bytes.{is_quote, is_line_byte}
-use Rattle.luf_lex.specs.Byte.{is_letter, is_word_byte, is_blank, begins}
+use Rattle.luf_str.specs.Bytes.{is_line_byte}
+use Rattle.luf_lex.specs.Byte.{is_letter, is_blank, begins}
 use Rattle.luf_lex.specs.Sign.{sign_spelling, Begins}
-use Rattle.luf_lex.specs.Spelling.{Spells, opens_long}
-use Rattle.luf_lex.specs.First.{IsFirst, is_tried, group_of, begins_comment, begins_numeral, Quoted, Bracketed, Commented, Other, Numeric}
-use Rattle.luf_lex.specs.declared.token.Tok.{Tok}
+use Rattle.luf_lex.specs.Spelling.{opens_long}
+use Rattle.luf_lex.specs.First.{IsFirst, group_of, Other}
 use Rattle.luf_lex.specs.declared.token.Tok.TheVariants as tok
 use Rattle.luf_lex.specs.declared.token.Sign.{Sign}
-use Rattle.luf_lex.specs.declared.token.Sign.TheVariants.{Plus, Minus, LeftBracket, Dot, DotDot}
-use Rattle.luf_lex.specs.declared.token.Kind.{Kind}
+use Rattle.luf_lex.specs.declared.token.Sign.TheVariants.{Plus, Minus, LeftBracket, Dot}
 use Rattle.luf_lex.specs.declared.token.Kind.TheVariants.{Token}
 use Rattle.luf_lex.proofs.PlainLemmas.{sign_first}
 use Rattle.luf_guard.specs.Joins.{sign_goes_on}

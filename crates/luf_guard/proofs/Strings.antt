@@ -1,5 +1,5 @@
 -- Strings before any text: their own last bytes end them.
-use Rattle.std.proofs.Common.{◌≡◌, ℕ, ◌<◌, true, List, [], ◌∷◌, ◌++◌, length, length-append, take, refl, sym, ap, ◌∙◌, subst, arith, inl, inr}
+use Rattle.std.proofs.Common.{◌≡◌, ℕ, ◌<◌, true, List, [], ◌∷◌, ◌++◌, length, length-append, take, refl, sym, ap, ◌∙◌, subst, arith, inl}
 use Rattle.std.proofs.Math.Seq.{take-append_seam}
 use Rattle.std.proofs.lemmas.Bool.{false≢true, and_parts, eqb-true}
 use Rattle.luf_str.specs.Bytes.{is_quote}
@@ -9,7 +9,7 @@ use Rattle.luf_str.proofs.LongLaws.{long_length}
 use Rattle.luf_str.proofs.Apart.{short_is_spelled}
 use Rattle.luf_lex.specs.Byte.{begins}
 use Rattle.luf_lex.specs.Spelling.{IsShortString, opens_long}
-use Rattle.luf_lex.specs.First.{IsFirst, group_of, Quoted, Bracketed, Other}
+use Rattle.luf_lex.specs.First.{IsFirst, group_of, Quoted, Bracketed}
 use Rattle.luf_lex.specs.declared.token.Tok.TheVariants.{Short, Long}
 use Rattle.luf_lex.specs.declared.token.Kind.TheVariants.{Token}
 use Rattle.luf_lex.proofs.BracketLemmas.{long_opens, opens_more}

@@ -1,5 +1,5 @@
 -- The cut of a blank and two tokens, as two first pieces.
-use Rattle.std.proofs.Common.{◌≡◌, ℕ, ◌+◌, ◌-◌, ◌<◌, false, cond, List, [], ◌∷◌, ◌++◌, length, length-append, drop, append-nil, refl, sym, ap, ◌∙◌, subst, arith}
+use Rattle.std.proofs.Common.{◌≡◌, ℕ, ◌+◌, ◌-◌, false, List, [], ◌∷◌, ◌++◌, length, length-append, drop, refl, sym, ap, ◌∙◌, subst, arith}
 use Rattle.std.specs.Prelude.{map}
 use Rattle.std.specs.List.{prefix_len}
 use Rattle.std.proofs.Math.Seq.{drop-append_seam, drop-drop}
@@ -53,10 +53,20 @@ stand_apart k j a b blank first second =
         rest = pieces;
         head = refl;
         cut = (
-          refl, omega arith, blank_before (a ++ b) blank,
-          (refl, omega arith, subst (λ n. IsFirst (a ++ b) k n) (sym la) first,
-            (refl, omega arith, subst (λ n. IsFirst (drop (1 + length a) (32 ∷ (a ++ b))) j n) (sym lb) (subst (λ t. IsFirst t j (length b)) (sym behind) second),
-              omega (arith, length-append a b)))
+          refl,
+          omega arith,
+          blank_before (a ++ b) blank,
+          (
+            refl,
+            omega arith,
+            subst (λ n. IsFirst (a ++ b) k n) (sym la) first,
+            (
+              refl,
+              omega arith,
+              subst (λ n. IsFirst (drop (1 + length a) (32 ∷ (a ++ b))) j n) (sym lb) (subst (λ t. IsFirst t j (length b)) (sym behind) second),
+              omega (arith, length-append a b),
+            ),
+          ),
         );
       };
       three = refl;

@@ -4,7 +4,6 @@ use Rattle.std.specs.List.{list_all, prefix_len}
 use Rattle.std.proofs.Math.Seq.{take-append_seam, take-append-add}
 use Rattle.std.proofs.lemmas.Bool.{and_left, and_parts, and_from, cond-true, cond-false, false≢true}
 use Rattle.std.proofs.lemmas.Bool.Decides.{nat_tests}
-use Rattle.std.proofs.lemmas.List.{take_at}
 use Rattle.luf_num.specs.Digit.{is_digit}
 use Rattle.luf_str.specs.Bytes.{is_quote}
 use Rattle.luf_lex.specs.Byte.{is_letter, is_word_byte, begins}
@@ -14,7 +13,7 @@ use Rattle.luf_lex.specs.declared.token.Tok.{Tok}
 use Rattle.luf_lex.specs.declared.token.Tok.TheVariants.{Name, Word}
 use Rattle.luf_lex.specs.declared.token.Kind.{Kind}
 use Rattle.luf_lex.specs.declared.token.Kind.TheVariants.{Token}
-use Rattle.luf_lex.proofs.RunLemmas.{begins_weaker, all_weaker}
+use Rattle.luf_lex.proofs.RunLemmas.{begins_weaker}
 use Rattle.luf_lex.proofs.PlainLemmas.{letter_is_word, word_spelled, run_first}
 
 -- the first byte decides what is tried
