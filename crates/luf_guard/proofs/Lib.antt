@@ -6,3 +6,4 @@ pub mod SignEnds
 pub mod Three
 pub mod Before
 pub mod Needed
+pub mod Spellings
