@@ -2,5 +2,7 @@
 #![tactic(auto)]
 
 mod space;
+#[cfg(test)]
+mod tests;
 
 pub use space::needs_space;
