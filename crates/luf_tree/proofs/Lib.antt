@@ -1,3 +1,4 @@
 pub mod LevelLemmas
+pub mod SyntaxEquations
 pub mod LevelEquations
 pub mod TokenLaws
