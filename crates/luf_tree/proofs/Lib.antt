@@ -1,4 +1,5 @@
 pub mod LevelLemmas
 pub mod SyntaxEquations
 pub mod LevelEquations
+pub mod LevelReads
 pub mod TokenLaws

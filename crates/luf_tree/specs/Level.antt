@@ -54,8 +54,8 @@ abbrev mutual
   pub levels_of_suffix : syntax.Suffix → ℕ
   levels_of_suffix (syntax.name_suffix name) = 0
   levels_of_suffix (syntax.index_suffix index) = levels_of_expression index + 1
-  levels_of_suffix (syntax.call_suffix arguments) = levels_of_arguments arguments
-  levels_of_suffix (syntax.method_suffix name arguments) = levels_of_arguments arguments
+  levels_of_suffix (syntax.call_suffix args) = levels_of_arguments args
+  levels_of_suffix (syntax.method_suffix name args) = levels_of_arguments args
 
   pub levels_of_suffixes : syntax.Suffixes → ℕ
   levels_of_suffixes syntax.no_suffixes = 0
