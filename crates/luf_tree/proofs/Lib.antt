@@ -2,4 +2,5 @@ pub mod LevelLemmas
 pub mod SyntaxEquations
 pub mod LevelEquations
 pub mod LevelReads
+pub mod LevelExamples
 pub mod TokenLaws
