@@ -1,5 +1,6 @@
--- The syntax of a chunk as plain data (Lua 5.4 manual, 9). All numbers are token numbers: `from` is the first token
--- of a part and `to` one past its last; of a name, a sign or an attribute it is the token itself.
+-- The syntax of a chunk as plain data (Lua 5.4 manual, 9). Before each constructor stands its form in Lua, where
+-- [A] is an A or nothing and {A} any number of A. All numbers are token numbers: `from` is the first token of a part
+-- and `to` one past its last; of a name, a sign or an attribute it is the token itself.
 use Rattle.std.specs.Prelude.{ℕ, Bool, Option, List}
 use Rattle.luf_tree.specs.declared.tree.Declared.{Declared}
 
@@ -23,15 +24,15 @@ mutual
     parenthesised : (from to : ℕ) (inner : Expression) → Expression
     -- function body
     function : (from to : ℕ) (body : FunctionBody) → Expression
-    -- { fields }
+    -- a table constructor
     table : (from to : ℕ) (fields : Fields) → Expression
-    -- not exp, # exp, - exp, ~ exp: the sign is the token `from`
+    -- unop exp
     unary : (from to : ℕ) (operand : Expression) → Expression
-    -- exp op exp op exp, with operators of one precedence
+    -- exp {binop exp}, with operators of one precedence
     chain : (from to : ℕ) (first : Expression) (rest : Operations) → Expression
     -- exp ^ exp
     power : (from to : ℕ) (base : Expression) (sign : ℕ) (exponent : Expression) → Expression
-    -- Name suffixes, ( exp ) suffixes
+    -- Name {suffix}, ( exp ) {suffix}
     suffixed : (from to : ℕ) (head : Expression) (suffixes : Suffixes) → Expression
 
   -- [exp]
@@ -39,16 +40,16 @@ mutual
     no_expression : OptionalExpression
     an_expression : (e : Expression) → OptionalExpression
 
-  -- exp, exp, exp
+  -- {exp}
   pub data Expressions : Type 0 where
     no_expressions : Expressions
     more_expressions : (first : Expression) (rest : Expressions) → Expressions
 
-  -- binop exp, in a chain
+  -- binop exp
   pub data Operation : Type 0 where
     operation : (sign : ℕ) (right : Expression) → Operation
 
-  -- binop exp binop exp
+  -- {binop exp}
   pub data Operations : Type 0 where
     no_operations : Operations
     more_operations : (first : Operation) (rest : Operations) → Operations
@@ -63,12 +64,12 @@ mutual
     -- : Name args
     method_suffix : (name : ℕ) (arguments : Arguments) → Suffix
 
-  -- suffix suffix suffix
+  -- {suffix}
   pub data Suffixes : Type 0 where
     no_suffixes : Suffixes
     more_suffixes : (first : Suffix) (rest : Suffixes) → Suffixes
 
-  -- ( [explist] ) with parentheses; one table or LiteralString without
+  -- ( [explist] ), with parentheses; a table constructor or LiteralString, without
   pub data Arguments : Type 0 where
     arguments : (from to : ℕ) (parentheses : Bool) (items : Expressions) → Arguments
 
@@ -80,7 +81,7 @@ mutual
     -- [ exp ] = exp
     keyed_field : (key value : Expression) → Field
 
-  -- field , field ; field
+  -- {field}
   pub data Fields : Type 0 where
     no_fields : Fields
     more_fields : (first : Field) (rest : Fields) → Fields
@@ -106,7 +107,7 @@ mutual
     for_statement : (from to name : ℕ) (first limit : Expression) (step : OptionalExpression) (body : Block) → Statement
     -- for namelist in explist do block end
     for_in_statement : (from to : ℕ) (names : List ℕ) (values : Expressions) (body : Block) → Statement
-    -- function Name {. Name} [: Name] body
+    -- function Name {. Name} [: Name] body: the path, and the method
     function_statement : (from to : ℕ) (path : List ℕ) (method : Option ℕ) (body : FunctionBody) → Statement
     -- local function Name body
     local_function_statement : (from to name : ℕ) (body : FunctionBody) → Statement
@@ -119,7 +120,7 @@ mutual
     -- return [explist] [;]
     return_statement : (from to : ℕ) (values : Expressions) → Statement
 
-  -- stat stat stat
+  -- {stat}
   pub data Statements : Type 0 where
     no_statements : Statements
     more_statements : (first : Statement) (rest : Statements) → Statements
@@ -128,7 +129,7 @@ mutual
   pub data Arm : Type 0 where
     arm : (test : Expression) (body : Block) → Arm
 
-  -- exp then block elseif exp then block
+  -- {exp then block}
   pub data Arms : Type 0 where
     no_arms : Arms
     more_arms : (first : Arm) (rest : Arms) → Arms
