@@ -1,5 +1,6 @@
 pub mod LevelLemmas
 pub mod SyntaxEquations
+pub mod SyntaxKept
 pub mod LevelEquations
 pub mod LevelReads
 pub mod LevelExamples

@@ -24,7 +24,7 @@ mutual
     parenthesised : (from to : ℕ) (inner : Expression) → Expression
     -- function body
     function : (from to : ℕ) (body : FunctionBody) → Expression
-    -- a table constructor
+    -- '{' {field} '}'
     table : (from to : ℕ) (fields : Fields) → Expression
     -- unop exp
     unary : (from to : ℕ) (operand : Expression) → Expression
@@ -57,7 +57,7 @@ mutual
   pub data Suffix : Type 0 where
     -- . Name
     name_suffix : (name : ℕ) → Suffix
-    -- [ exp ]
+    -- '[' exp ']'
     index_suffix : (index : Expression) → Suffix
     -- args
     call_suffix : (arguments : Arguments) → Suffix
@@ -78,7 +78,7 @@ mutual
     item_field : (value : Expression) → Field
     -- Name = exp
     named_field : (name : ℕ) (value : Expression) → Field
-    -- [ exp ] = exp
+    -- '[' exp ']' = exp
     keyed_field : (key value : Expression) → Field
 
   -- {field}
