@@ -1,4 +1,6 @@
 pub mod Operator
 pub mod First
 pub mod Grammar
+pub mod Syntax
+pub mod SyntaxOf
 pub mod Level
