@@ -1,3 +1,1 @@
 pub mod Cause
-pub mod Reads
-pub mod Shapes

@@ -1,12 +1,7 @@
 //! The tree of a source from its tokens, by recursive descent with one token ahead.
 #![tactic(auto)]
 
-mod descent;
 mod error;
-mod names;
-#[cfg(test)]
-mod tests;
-mod tokens;
 mod whole;
 
 pub use error::ParseErr;

