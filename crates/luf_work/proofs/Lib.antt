@@ -1,3 +1,2 @@
-pub mod CutText
-pub mod RefusalLemmas
-pub mod TextLemmas
+pub mod Before
+pub mod TokenLaws

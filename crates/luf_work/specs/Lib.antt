@@ -1,4 +1,4 @@
-pub mod Errors
 pub mod Minified
 pub mod Refusals
+pub mod Space
 pub mod Text

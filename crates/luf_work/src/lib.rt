@@ -3,6 +3,7 @@
 
 mod minify;
 mod refusal;
+mod space;
 #[cfg(test)]
 mod tests;
 mod text;
