@@ -1,3 +1,4 @@
 pub mod Operator
+pub mod First
 pub mod Grammar
 pub mod Level
