@@ -1,2 +1,3 @@
 pub mod Before
-pub mod TokenLaws
+pub mod FirstByte
+pub mod TokensCut
