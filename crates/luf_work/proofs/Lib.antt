@@ -1,3 +1,4 @@
 pub mod Before
 pub mod FirstByte
 pub mod TokensCut
+pub mod TextAgain

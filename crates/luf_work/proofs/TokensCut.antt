@@ -46,7 +46,7 @@ no_equal_next t u toks b spelled h bracket =
     no_equal u b spelled (λ e. none.0 (ap Some e)) (λ e. none.1 (ap Some e))
 
 -- what tokens are joined to begins with the first of them
-joined_begins : {b text : List ℕ} {rest : List (List ℕ)} → IsJoined (b ∷ rest) text → (x : List ℕ) × (text ≡ b ++ x)
+pub joined_begins : {b text : List ℕ} {rest : List (List ℕ)} → IsJoined (b ∷ rest) text → (x : List ℕ) × (text ≡ b ++ x)
 joined_begins (alone {a}) = ([], sym (append-nil a))
 joined_begins (apart {text} s j) = (text, refl)
 joined_begins (spaced {text} s j) = (32 ∷ text, refl)
