@@ -2,3 +2,5 @@ pub mod Before
 pub mod FirstByte
 pub mod TokensCut
 pub mod TextAgain
+pub mod TextLemmas
+pub mod RefusalLemmas

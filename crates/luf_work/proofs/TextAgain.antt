@@ -49,10 +49,10 @@ cut_spelled source at (p ∷ pieces) to cut =
     kind_spelled source p p.kind refl pieces first.spelled (cut_spelled source p.span.to pieces to cut.3)
 
 -- what stands at the head of a source, where a mark ends at m and a `#` line at n
-abbrev marked : Bool → ℕ → List Piece
+abbrev pub marked : Bool → ℕ → List Piece
 marked none m = cond none [] (record { kind = Mark; span = record { from = 0; to = m } } ∷ [])
 
-abbrev hashed : Bool → ℕ → ℕ → List Piece
+abbrev pub hashed : Bool → ℕ → ℕ → List Piece
 hashed none m n = cond none [] (record { kind = HashLine; span = record { from = m; to = n } } ∷ [])
 
 -- the pieces of the head are no tokens

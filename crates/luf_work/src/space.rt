@@ -6,7 +6,7 @@ ghost use Rattle.luf_work.specs.Space.{IsSpelling, NeedSpace, StandApart};
 pub fn needs_space(a: &[u8], b: &[u8]) -> bool
     requires left { IsSpelling a.now }
     requires right { IsSpelling b.now }
-    ensures needed { IsTrue result ↔ NeedSpace a.now b.now }
+    ensures exact { IsTrue result ↔ NeedSpace a.now b.now }
     ensures apart { result ≡ false → StandApart a.now b.now }
 {
     a.len() == b.len()
