@@ -16,7 +16,7 @@ use Rattle.luf_lex.specs.declared.token.Kind.TheVariants.{Token}
 use Rattle.luf_lex.proofs.RunLemmas.{begins_take, begins_weaker}
 use Rattle.luf_lex.proofs.PlainLemmas.{keyword_letter, sign_no_blank, sign_no_line}
 use Rattle.luf_lex.proofs.LoneKind.{quoted_begins, bracketed_opens}
-use Rattle.luf_work.proofs.Before.{first_before, stops_nothing}
+use Rattle.luf_guard.proofs.Before.{first_before, stops_nothing}
 
 -- what a token that is no sign may begin with
 abbrev begins_value : ℕ → Bool

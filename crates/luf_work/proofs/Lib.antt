@@ -1,4 +1,3 @@
-pub mod Before
 pub mod FirstByte
 pub mod TokensCut
 pub mod TextAgain

@@ -26,9 +26,9 @@ use Rattle.luf_tree.specs.declared.tree.Chunk.{Chunk}
 use Rattle.luf_tree.specs.Grammar.{At, IsChunk}
 use Rattle.luf_tree.proofs.TokenLaws.{chunk_no_hash, bracket_no_equal}
 use Rattle.luf_work.specs.Minified.{is_hash_line, hash_line, hash_text, IsSource, SameTokens}
-use Rattle.luf_work.specs.Space.{IsSpelling}
+use Rattle.luf_guard.specs.Space.{IsSpelling}
 use Rattle.luf_work.specs.Text.{IsJoined, nothing, alone, apart, spaced}
-use Rattle.luf_work.proofs.Before.{spelled_some}
+use Rattle.luf_guard.proofs.Before.{spelled_some}
 use Rattle.luf_work.proofs.FirstByte.{no_line, no_mark, no_hash}
 use Rattle.luf_work.proofs.TokensCut.{Spelled, BracketsStop, joined_begins, TextCut, with_other, text_cut}
 

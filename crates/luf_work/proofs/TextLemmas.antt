@@ -10,7 +10,7 @@ use Rattle.luf_lex.specs.Tokens.{tokens_of, toks_of, spellings_of}
 use Rattle.luf_lex.specs.declared.token.Kind.TheVariants.{HashLine, Mark}
 use Rattle.luf_lex.specs.declared.token.Piece.{Piece}
 use Rattle.luf_lex.proofs.TokenLemmas.{length_tokens}
-use Rattle.luf_work.specs.Space.{IsSpelling}
+use Rattle.luf_guard.specs.Space.{IsSpelling}
 use Rattle.luf_work.specs.Text.{IsJoined, nothing, alone, apart, spaced, IsNext, first, next_apart, next_spaced}
 use Rattle.luf_work.proofs.TextAgain.{spelling_in, marked, hashed}
 

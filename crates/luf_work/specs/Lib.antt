@@ -1,4 +1,3 @@
 pub mod Minified
 pub mod Refusals
-pub mod Space
 pub mod Text

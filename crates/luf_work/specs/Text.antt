@@ -1,6 +1,6 @@
 -- The text of tokens. Our own rules.
 use Rattle.std.specs.Prelude.{ℕ, Option, Some, None, List, [], ◌∷◌, ◌++◌}
-use Rattle.luf_work.specs.Space.{StandApart, NeedSpace}
+use Rattle.luf_guard.specs.Space.{StandApart, NeedSpace}
 
 -- Spellings joined with the fewest spaces: one exactly where two neighbours need it.
 pub data IsJoined : List (List ℕ) → List ℕ → Type 0 where

@@ -3,7 +3,6 @@
 
 mod minify;
 mod refusal;
-mod space;
 #[cfg(test)]
 mod tests;
 mod text;

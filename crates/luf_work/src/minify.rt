@@ -79,7 +79,9 @@ fn tree_of(alloc: Global, src: &[u8], pieces: &Cut) -> Result<Chunk, Refusal>
     match parse(alloc, pieces) {
         Ok(chunk) => Ok(chunk),
         Err(ParseErr::Syntax { token }) => Err(Refusal::Syntax(place_of_token(src, pieces, token))),
-        Err(ParseErr::TooDeep { token }) => Err(Refusal::TooDeep(place_of_token(src, pieces, token))),
+        Err(ParseErr::TooDeep { token }) => Err(Refusal::TooDeep(place_of_token(
+            src, pieces, token,
+        ))),
         Err(ParseErr::Memory) => Err(Refusal::Memory),
     }
 }

@@ -4,10 +4,10 @@ ghost use Rattle.std.specs.Option.{option_copied};
 ghost use Rattle.luf_lex.specs.Cut.{IsCut};
 ghost use Rattle.luf_lex.specs.Tokens.{spellings_of};
 ghost use Rattle.luf_work.specs.Minified.{hash_line, hash_text};
-ghost use Rattle.luf_work.specs.Space.{IsSpelling};
+ghost use Rattle.luf_guard.specs.Space.{IsSpelling};
 ghost use Rattle.luf_work.specs.Text.{IsJoined, IsNext};
 
-use crate::space::needs_space;
+use luf_guard::needs_space;
 use luf_lex::{Cut, Kind, Piece};
 use luf_memory::Memory;
 
