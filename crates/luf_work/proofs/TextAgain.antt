@@ -6,7 +6,7 @@ use Rattle.std.specs.Option.{option_to_list}
 use Rattle.std.proofs.Math.Seq.{drop-append_seam, drop-drop}
 use Rattle.std.proofs.lemmas.Bool.{cond-true, cond-false, and_left, and_parts, eqb-true, eqb-false, false≢true}
 use Rattle.std.proofs.lemmas.Bool.Decides.{nat_tests}
-use Rattle.std.proofs.lemmas.List.{length-take-le}
+use Rattle.std.proofs.lemmas.List.{length-map}
 use Rattle.std.proofs.lemmas.List.Sums.{prefix_len-le-length}
 use Rattle.luf_str.specs.Bytes.{is_line_byte}
 use Rattle.luf_lex.specs.Byte.{in_line, begins}
@@ -21,6 +21,7 @@ use Rattle.luf_lex.specs.declared.token.Kind.{Kind}
 use Rattle.luf_lex.specs.declared.token.Kind.TheVariants.{Token, Blank, LineEnd, HashLine, Mark}
 use Rattle.luf_lex.specs.declared.token.Piece.{Piece}
 use Rattle.luf_lex.proofs.RunLemmas.{front_passes, begins_take, run_some}
+use Rattle.luf_lex.proofs.TokenLemmas.{length_tokens}
 use Rattle.luf_lex.proofs.PlainLemmas.{line_end_first}
 use Rattle.luf_tree.specs.declared.tree.Chunk.{Chunk}
 use Rattle.luf_tree.specs.Grammar.{At, IsChunk}
@@ -29,24 +30,33 @@ use Rattle.luf_work.specs.Minified.{is_hash_line, hash_line, hash_text, IsSource
 use Rattle.luf_guard.specs.Space.{IsSpelling}
 use Rattle.luf_work.specs.Text.{IsJoined, nothing, alone, apart, spaced}
 use Rattle.luf_guard.proofs.Before.{spelled_some}
+use Rattle.luf_guard.proofs.Spellings.{SpelledAt, spelled_at}
+use Rattle.luf_guard.proofs.Words.{run_before, begins_some, begins_front}
 use Rattle.luf_work.proofs.FirstByte.{no_line, no_mark, no_hash}
 use Rattle.luf_work.proofs.TokensCut.{Spelled, BracketsStop, joined_begins, TextCut, with_other, text_cut}
 
--- ---- the tokens of a cut are spelled as they are in the source
+-- ---- the tokens of a cut
 
 abbrev bytes_of : List ℕ → Piece → List ℕ
 bytes_of source p = slice_range source p.span.from p.span.to
 
-kind_spelled : (source : List ℕ) (p : Piece) (k : Kind) → p.kind ≡ k → (rest : List Piece) → Spells p.kind (bytes_of source p) → Spelled (toks_of rest) (spellings_of source rest)
-    → Spelled (option_to_list (tok_of k) ++ toks_of rest) (map (bytes_of source) (cond (is_token k) (p ∷ tokens_of rest) (tokens_of rest)))
-kind_spelled source p (Token t) e rest h later = (subst (λ (k : Kind). Spells k (bytes_of source p)) e h, later)
-kind_spelled source p _ e rest h later = later
+-- each is spelled as it is in the source
+pub length_spellings : (source : List ℕ) (pieces : List Piece) → length (spellings_of source pieces) ≡ length (toks_of pieces)
+length_spellings source pieces = length-map (tokens_of pieces) (bytes_of source) ∙ length_tokens pieces
 
-cut_spelled : (source : List ℕ) (at : ℕ) (pieces : List Piece) (to : ℕ) → Cuts source at pieces to → Spelled (toks_of pieces) (spellings_of source pieces)
-cut_spelled source at [] to cut = tt
-cut_spelled source at (p ∷ pieces) to cut =
-    let first : IsFirst (drop p.span.from source) p.kind (p.span.to - p.span.from) = subst (λ i. IsFirst (drop i source) p.kind (p.span.to - p.span.from)) (sym cut.0) cut.2 in
-    kind_spelled source p p.kind refl pieces first.spelled (cut_spelled source p.span.to pieces to cut.3)
+all_spelled : (toks : List Tok) (spellings : List (List ℕ)) → length spellings ≡ length toks → ((n : ℕ) (a : List ℕ) → slice_get spellings n ≡ Some a → SpelledAt toks n a) → Spelled toks spellings
+all_spelled [] [] size each = tt
+all_spelled [] (a ∷ spellings) size each = absurd (omega (arith, size))
+all_spelled (t ∷ toks) [] size each = absurd (omega (arith, size))
+all_spelled (t ∷ toks) (a ∷ spellings) size each =
+    let one = each 0 a refl in
+    let same : one.0 ≡ t = cc (one.1) in
+    (subst (λ (u : Tok). Spells (Token u) a) same one.2, all_spelled toks spellings (omega (arith, size)) (λ n b found. each (suc n) b found))
+
+spelled_in : (source : List ℕ) (pieces : List Piece) → IsCut source pieces → Spelled (toks_of pieces) (spellings_of source pieces)
+spelled_in source pieces cut = all_spelled (toks_of pieces) (spellings_of source pieces) (length_spellings source pieces) (spelled_at source pieces cut)
+
+-- ---- the head of a cut
 
 -- what stands at the head of a source, where a mark ends at m and a `#` line at n
 abbrev pub marked : Bool → ℕ → List Piece
@@ -66,24 +76,6 @@ toks_behind : (source : List ℕ) (rest : List Piece) → (toks_of (head_of sour
 toks_behind source rest =
     let tokens = head_tokens (eqb (mark_length source) 0) (eqb (head_end source) (mark_length source)) (mark_length source) (head_end source) rest in
     (tokens.0, ap (map (bytes_of source)) tokens.1)
-
-pub spelled_in : (source : List ℕ) (pieces : List Piece) → IsCut source pieces → Spelled (toks_of pieces) (spellings_of source pieces)
-spelled_in source pieces cut =
-    let behind = toks_behind source cut.rest in
-    subst (λ (ps : List Piece). Spelled (toks_of ps) (spellings_of source ps)) (sym cut.head)
-    (subst (λ ts. Spelled ts (spellings_of source (head_of source ++ cut.rest))) (sym behind.0)
-    (subst (λ ss. Spelled (toks_of cut.rest) ss) (sym behind.1) (cut_spelled source (head_end source) cut.rest (length source) cut.cut)))
-
--- each of them is the spelling of a token
-spelled_at : (toks : List Tok) (spellings : List (List ℕ)) → Spelled toks spellings → (n : ℕ) (a : List ℕ) → slice_get spellings n ≡ Some a → IsSpelling a
-spelled_at [] [] h n a found = cc
-spelled_at [] (b ∷ spellings) h n a found = absurd h
-spelled_at (t ∷ toks) [] h n a found = absurd h
-spelled_at (t ∷ toks) (b ∷ spellings) h zero a found = let same : b ≡ a = cc in (t, subst (λ s. Spells (Token t) s) same h.0)
-spelled_at (t ∷ toks) (b ∷ spellings) h (suc n) a found = spelled_at toks spellings h.1 n a found
-
-pub spelling_in : (source : List ℕ) (pieces : List Piece) → IsCut source pieces → (n : ℕ) (a : List ℕ) → slice_get (spellings_of source pieces) n ≡ Some a → IsSpelling a
-spelling_in source pieces cut n a found = spelled_at (toks_of pieces) (spellings_of source pieces) (spelled_in source pieces cut) n a found
 
 -- ---- the `#` line of a cut
 
@@ -139,10 +131,6 @@ hash_line_in source some =
 
 -- ---- the head of a text
 
-begins_append : (p : ℕ → Bool) (a x : List ℕ) → 0 < length a → begins p (a ++ x) ≡ begins p a
-begins_append p [] x some = absurd (omega arith)
-begins_append p (b ∷ a) x some = refl
-
 -- what tokens are joined to begins as the first of them does
 joined_apart : (p : ℕ → Bool) (toks : List Tok) {spellings : List (List ℕ)} {text : List ℕ} → IsJoined spellings text → Spelled toks spellings
     → ((t : Tok) (a : List ℕ) → At toks 0 t → Spells (Token t) a → begins p a ≡ false) → begins p text ≡ false
@@ -150,9 +138,9 @@ joined_apart p toks nothing h none = refl
 joined_apart p [] alone h none = absurd h
 joined_apart p (t ∷ toks) (alone {a}) h none = none t a refl h.0
 joined_apart p [] (apart s j) h none = absurd h
-joined_apart p (t ∷ toks) (apart {a} {text} s j) h none = begins_append p a text (spelled_some t a h.0) ∙ none t a refl h.0
+joined_apart p (t ∷ toks) (apart {a} {text} s j) h none = begins_front p a text (spelled_some t a h.0) ∙ none t a refl h.0
 joined_apart p [] (spaced s j) h none = absurd h
-joined_apart p (t ∷ toks) (spaced {a} {text} s j) h none = begins_append p a (32 ∷ text) (spelled_some t a h.0) ∙ none t a refl h.0
+joined_apart p (t ∷ toks) (spaced {a} {text} s j) h none = begins_front p a (32 ∷ text) (spelled_some t a h.0) ∙ none t a refl h.0
 
 no_mark_length : (text : List ℕ) → begins (λ b. eqb 239 b) text ≡ false → mark_length text ≡ 0
 no_mark_length [] h = refl
@@ -167,30 +155,17 @@ end_of text n mark hash =
     let behind : hash_length (drop (mark_length text) text) ≡ n = ap (λ i. hash_length (drop i text)) mark ∙ hash in
     omega (arith, mark, behind)
 
--- a front that passes, and what follows does not
-run_before : (p : ℕ → Bool) (a x : List ℕ) → list_all p a ≡ true → begins p x ≡ false → prefix_len p (a ++ x) ≡ length a
-run_before p [] [] each stop = refl
-run_before p [] (b ∷ x) each stop = cond-false (p b) _ _ stop
-run_before p (b ∷ a) x each stop =
-    let parts = and_parts (p b) (list_all p a) each in
-    let e : cond (p b) (1 + prefix_len p (a ++ x)) 0 ≡ 1 + prefix_len p (a ++ x) = cond-true (p b) _ _ parts.0 in
-    omega (arith, e, run_before p a x parts.1 stop)
-
 hash_no_mark : (a : List ℕ) → begins (λ b. eqb b 35) a ≡ true → begins (λ b. eqb 239 b) a ≡ false
 hash_no_mark [] h = refl
 hash_no_mark (b ∷ a) h = grind (arith, nat_tests)
-
-begins_some : (p : ℕ → Bool) (a : List ℕ) → begins p a ≡ true → 0 < length a
-begins_some p [] h = cc
-begins_some p (b ∷ a) h = omega arith
 
 -- a `#` line and a line feed end the head behind the line
 hash_end : (a x : List ℕ) → IsHashLine a → head_end (a ++ 10 ∷ x) ≡ length a
 hash_end a x h =
     let some = begins_some (λ b. eqb b 35) a h.first in
     end_of (a ++ 10 ∷ x) (length a)
-    (no_mark_length (a ++ 10 ∷ x) (begins_append (λ b. eqb 239 b) a (10 ∷ x) some ∙ hash_no_mark a h.first))
-    (cond-true _ _ _ (begins_append (λ b. eqb b 35) a (10 ∷ x) some ∙ h.first) ∙ run_before in_line a (10 ∷ x) h.each refl)
+    (no_mark_length (a ++ 10 ∷ x) (begins_front (λ b. eqb 239 b) a (10 ∷ x) some ∙ hash_no_mark a h.first))
+    (cond-true _ _ _ (begins_front (λ b. eqb b 35) a (10 ∷ x) some ∙ h.first) ∙ run_before in_line a (10 ∷ x) h.each refl)
 
 -- a line feed before what begins with no byte of a line end is a piece
 feed_longest : (x : List ℕ) (m : ℕ) → begins is_line_byte x ≡ false → 1 < m → m ≤ length (10 ∷ x) → IsLineEnd (take m (10 ∷ x)) → ⊥

@@ -11,8 +11,9 @@ use Rattle.luf_lex.specs.declared.token.Kind.TheVariants.{HashLine, Mark}
 use Rattle.luf_lex.specs.declared.token.Piece.{Piece}
 use Rattle.luf_lex.proofs.TokenLemmas.{length_tokens}
 use Rattle.luf_guard.specs.Space.{IsSpelling}
+use Rattle.luf_guard.proofs.Spellings.{spelling_at}
 use Rattle.luf_work.specs.Text.{IsJoined, nothing, alone, apart, spaced, IsNext, first, next_apart, next_spaced}
-use Rattle.luf_work.proofs.TextAgain.{spelling_in, marked, hashed}
+use Rattle.luf_work.proofs.TextAgain.{length_spellings, marked, hashed}
 
 -- the last of the tokens, if there is one
 abbrev pub last_of : List (List ℕ) → Option (List ℕ)
@@ -41,9 +42,6 @@ joined_push b more (spaced {a} {b = c} {text} {rest} n j) next =
 -- the tokens up to one, with it
 pub take_token : {X : Type 0} (tokens : List X) (n : ℕ) (b : X) → slice_get tokens n ≡ Some b → take (n + 1) tokens ≡ take n tokens ++ b ∷ []
 take_token tokens n b found = take_more tokens n b (slice_get_within tokens n b found) ∙ ap (λ x. take n tokens ++ x ∷ []) (get_or_from_slice_get tokens n b b found)
-
-pub length_spellings : (source : List ℕ) (pieces : List Piece) → length (spellings_of source pieces) ≡ length (toks_of pieces)
-length_spellings source pieces = length-map (tokens_of pieces) (λ p. slice_range source p.span.from p.span.to) ∙ length_tokens pieces
 
 -- The tokens before token n were written behind what was there, and the last of them is at hand.
 pub record Written (source : List ℕ) (pieces : List Piece) (n : ℕ) (old now : List ℕ) (before : Option (List ℕ)) : Type 0 where
@@ -88,7 +86,7 @@ last_spelled (b ∷ c ∷ rest) each a found = last_spelled (c ∷ rest) (λ n. 
 pub before_spelled : (source : List ℕ) (pieces : List Piece) (n : ℕ) (old now : List ℕ) (before : Option (Bor (List ℕ))) → IsCut source pieces → Written source pieces n old now (option_copied before) → IfSome before (λ a. IsSpelling a.now)
 before_spelled source pieces n old now None cut w = tt
 before_spelled source pieces n old now (Some a) cut w =
-    last_spelled (take n (spellings_of source pieces)) (λ m b found. spelling_in source pieces cut m b (in_front (spellings_of source pieces) n m b found)) a.now (sym w.last)
+    last_spelled (take n (spellings_of source pieces)) (λ m b found. spelling_at source pieces cut m b (in_front (spellings_of source pieces) n m b found)) a.now (sym w.last)
 
 -- what begins with a longer front begins with a shorter one
 pub front_kept : (old more mid new : List ℕ) → mid ≡ old ++ more → take (length mid) new ≡ mid → take (length old) new ≡ old

@@ -4,8 +4,9 @@ use Rattle.std.specs.Option.{option_copied}
 use Rattle.std.proofs.lemmas.List.{take_all}
 use Rattle.luf_lex.specs.Tokens.{spellings_of}
 use Rattle.luf_work.specs.Text.{IsJoined}
-use Rattle.luf_work.proofs.TextAgain.{spelling_in}
-use Rattle.luf_work.proofs.TextLemmas.{Written, written_none, written_more, before_spelled, counted, length_spellings, front_kept}
+use Rattle.luf_guard.proofs.Spellings.{spelling_at}
+use Rattle.luf_work.proofs.TextAgain.{length_spellings}
+use Rattle.luf_work.proofs.TextLemmas.{Written, written_none, written_more, before_spelled, counted, front_kept}
 use Rattle.luf_work.proofs.text.write_tokens.Goals as goal
 use Rattle.luf_work.proofs.text.write_tokens.Goals.{in-Some+in_default-write_token, in_default}
 
@@ -16,7 +17,7 @@ pub write_token-requires-clause-left : goal.write_token-requires-clause-left
 write_token-requires-clause-left c = before_spelled c.args.src.now c.args.cut.now c.loop-n.n c.args.into.now.items c.loop-n.into.items c.loop-n.before c.requires c.loop-n.invariant
 
 pub write_token-requires-clause-right : goal.write_token-requires-clause-right
-write_token-requires-clause-right c = spelling_in c.args.src.now c.args.cut.now c.requires c.loop-n.n c.in-Some.spelling.now (sym c.spelling.ensures ∙ ap option_copied c.in-Some.is)
+write_token-requires-clause-right c = spelling_at c.args.src.now c.args.cut.now c.requires c.loop-n.n c.in-Some.spelling.now (sym c.spelling.ensures ∙ ap option_copied c.in-Some.is)
 
 pub returns-in-Err-clause-err : goal.returns-in-Err-clause-err
 returns-in-Err-clause-err c =
