@@ -1,5 +1,5 @@
 -- When a source has a minified text, and which.
-use Rattle.std.proofs.Common.{◌≡◌, ℕ, ◌<◌, ◌≤◌, Option, List, ◌∷◌, ◌++◌, length, map, refl, sym, ap, ◌∙◌, subst}
+use Rattle.std.proofs.Common.{◌≡◌, ℕ, ◌≤◌, Option, List, ◌∷◌, ◌++◌, length, map, refl, sym, ap, ◌∙◌, subst}
 use Rattle.std.specs.Prelude.{slice_get}
 use Rattle.std.specs.Option.{option_map, unwrap_or}
 use Rattle.std.proofs.lemmas.Option.{unwrap_or-slice_get, slice_get-map}
@@ -11,7 +11,6 @@ use Rattle.luf_lex.proofs.OneCut.{one_cut}
 use Rattle.luf_tree.specs.declared.tree.Chunk.{Chunk}
 use Rattle.luf_tree.specs.Grammar.{IsChunk}
 use Rattle.luf_tree.specs.Level.{depth_of}
-use Rattle.luf_parse.specs.Cause.{HasNoTree}
 use Rattle.luf_work.specs.Minified.{hash_text, IsMinified}
 use Rattle.luf_work.specs.Refusals.{start_of, HasNoTreeAt}
 use Rattle.luf_work.specs.Text.{IsJoined, nothing, alone, apart, spaced}

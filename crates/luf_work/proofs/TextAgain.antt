@@ -1,39 +1,34 @@
 -- The text of a source has its tokens.
-use Rattle.std.proofs.Common.{◌≡◌, ℕ, zero, suc, ◌+◌, ◌-◌, ◌<◌, ◌≤◌, inl, inr, Bool, true, false, cond, eqb, List, [], ◌∷◌, ◌++◌, Some, None, length, length-append, length-drop, append-nil, append_assoc, take, drop, get_or, refl, sym, ap, ◌∙◌, subst, arith}
-use Rattle.std.specs.List.{list_all, prefix_len}
-use Rattle.std.specs.Prelude.{slice_range, slice_get, map, flat_map}
-use Rattle.std.specs.Option.{option_to_list}
+use Rattle.std.proofs.Common.{◌≡◌, ℕ, zero, suc, ◌+◌, ◌<◌, ◌≤◌, inl, inr, Bool, true, false, cond, eqb, List, [], ◌∷◌, ◌++◌, Some, length, length-append, append-nil, append_assoc, take, drop, get_or, refl, sym, ap, ◌∙◌, subst, arith}
+use Rattle.std.specs.List.{prefix_len}
+use Rattle.std.specs.Prelude.{slice_range, slice_get, map}
 use Rattle.std.proofs.Math.Seq.{drop-append_seam, drop-drop}
-use Rattle.std.proofs.lemmas.Bool.{cond-true, cond-false, and_left, and_parts, eqb-true, eqb-false, false≢true}
+use Rattle.std.proofs.lemmas.Bool.{cond-true, cond-false, and_left, false≢true}
 use Rattle.std.proofs.lemmas.Bool.Decides.{nat_tests}
 use Rattle.std.proofs.lemmas.List.{length-map}
-use Rattle.std.proofs.lemmas.List.Sums.{prefix_len-le-length}
 use Rattle.luf_str.specs.Bytes.{is_line_byte}
 use Rattle.luf_lex.specs.Byte.{in_line, begins}
 use Rattle.luf_lex.specs.Spelling.{Spells, IsLineEnd, IsHashLine}
 use Rattle.luf_lex.specs.First.{Group, Quoted, IsFirst, is_tried, group_of}
 use Rattle.luf_lex.specs.Cut.{Cuts, IsCut, mark_length, hash_length, head_of, head_end}
-use Rattle.luf_lex.specs.Tokens.{is_token, tok_of, tokens_of, toks_of, spellings_of}
+use Rattle.luf_lex.specs.Tokens.{tokens_of, toks_of, spellings_of}
 use Rattle.luf_lex.specs.declared.token.Tok.{Tok}
-use Rattle.luf_lex.specs.declared.token.Tok.TheVariants.{Sign}
-use Rattle.luf_lex.specs.declared.token.Sign.TheVariants.{Hash}
 use Rattle.luf_lex.specs.declared.token.Kind.{Kind}
-use Rattle.luf_lex.specs.declared.token.Kind.TheVariants.{Token, Blank, LineEnd, HashLine, Mark}
+use Rattle.luf_lex.specs.declared.token.Kind.TheVariants.{Token, LineEnd, HashLine, Mark}
 use Rattle.luf_lex.specs.declared.token.Piece.{Piece}
-use Rattle.luf_lex.proofs.RunLemmas.{front_passes, begins_take, run_some}
+use Rattle.luf_lex.proofs.RunLemmas.{front_passes, begins_take}
 use Rattle.luf_lex.proofs.TokenLemmas.{length_tokens}
 use Rattle.luf_lex.proofs.PlainLemmas.{line_end_first}
 use Rattle.luf_tree.specs.declared.tree.Chunk.{Chunk}
 use Rattle.luf_tree.specs.Grammar.{At, IsChunk}
 use Rattle.luf_tree.proofs.TokenLaws.{chunk_no_hash, bracket_no_equal}
-use Rattle.luf_work.specs.Minified.{is_hash_line, hash_line, hash_text, IsSource, SameTokens}
-use Rattle.luf_guard.specs.Space.{IsSpelling}
+use Rattle.luf_work.specs.Minified.{is_hash_line, hash_text, IsSource, SameTokens}
 use Rattle.luf_work.specs.Text.{IsJoined, nothing, alone, apart, spaced}
 use Rattle.luf_guard.proofs.Before.{spelled_some}
 use Rattle.luf_guard.proofs.Spellings.{SpelledAt, spelled_at}
 use Rattle.luf_guard.proofs.Words.{run_before, begins_some, begins_front}
 use Rattle.luf_work.proofs.FirstByte.{no_line, no_mark, no_hash}
-use Rattle.luf_work.proofs.TokensCut.{Spelled, BracketsStop, joined_begins, TextCut, with_other, text_cut}
+use Rattle.luf_work.proofs.TokensCut.{Spelled, BracketsStop, TextCut, with_other, text_cut}
 
 -- ---- the tokens of a cut
 

@@ -1,15 +1,14 @@
 -- The text of tokens, token by token.
 use Rattle.std.proofs.Common.{◌≡◌, ℕ, zero, suc, ◌+◌, ◌<◌, ◌≤◌, Option, List, [], ◌∷◌, ◌++◌, Some, None, Bool, true, false, eqb, length, length-append, take, append-nil, append_assoc, get_or, Bor, IfSome, refl, sym, ap, ◌∙◌, subst, arith}
-use Rattle.std.specs.Prelude.{slice_get, slice_range}
+use Rattle.std.specs.Prelude.{slice_get}
 use Rattle.std.specs.Option.{option_copied}
-use Rattle.std.proofs.lemmas.List.{take_more, take-take, length-map}
+use Rattle.std.proofs.lemmas.List.{take_more, take-take}
 use Rattle.std.proofs.Math.Seq.{take-append_seam}
 use Rattle.std.proofs.lemmas.Option.{slice_get_within, get_or_from_slice_get, slice_get-get_or}
 use Rattle.luf_lex.specs.Cut.{Cuts, IsCut, mark_length, head_of, head_end}
-use Rattle.luf_lex.specs.Tokens.{tokens_of, toks_of, spellings_of}
+use Rattle.luf_lex.specs.Tokens.{toks_of, spellings_of}
 use Rattle.luf_lex.specs.declared.token.Kind.TheVariants.{HashLine, Mark}
 use Rattle.luf_lex.specs.declared.token.Piece.{Piece}
-use Rattle.luf_lex.proofs.TokenLemmas.{length_tokens}
 use Rattle.luf_guard.specs.Space.{IsSpelling}
 use Rattle.luf_guard.proofs.Spellings.{spelling_at}
 use Rattle.luf_work.specs.Text.{IsJoined, nothing, alone, apart, spaced, IsNext, first, next_apart, next_spaced}

@@ -1,5 +1,5 @@
 -- The text of tokens is cut into them again.
-use Rattle.std.proofs.Common.{◌≡◌, ℕ, suc, ◌+◌, ◌-◌, ◌<◌, ◌≤◌, Bool, true, false, cond, eqb, List, [], ◌∷◌, ◌++◌, Some, None, length, length-append, length-drop, append-nil, append_assoc, take, drop, refl, sym, ap, ◌∙◌, subst, arith}
+use Rattle.std.proofs.Common.{◌≡◌, ℕ, suc, ◌+◌, ◌<◌, ◌≤◌, false, cond, eqb, List, [], ◌∷◌, ◌++◌, Some, None, length, length-append, length-drop, append-nil, take, drop, refl, sym, ap, ◌∙◌, subst, arith}
 use Rattle.std.specs.List.{prefix_len}
 use Rattle.std.specs.Prelude.{slice_range, slice_get, map}
 use Rattle.std.specs.Option.{option_to_list}
@@ -18,7 +18,6 @@ use Rattle.luf_lex.specs.declared.token.Kind.TheVariants.{Token, Blank}
 use Rattle.luf_lex.specs.declared.token.Piece.{Piece}
 use Rattle.luf_lex.proofs.PlainLemmas.{blank_first}
 use Rattle.luf_tree.specs.Grammar.{At}
-use Rattle.luf_guard.specs.Space.{StandApart}
 use Rattle.luf_work.specs.Text.{IsJoined, nothing, alone, apart, spaced}
 use Rattle.luf_guard.proofs.Before.{Stops, first_before, spelled_some, apart_stops, stops_space, stops_nothing}
 use Rattle.luf_work.proofs.FirstByte.{no_blank, no_equal}

@@ -1,4 +1,4 @@
-use Rattle.std.proofs.Common.{ap, length, take, ◌∙◌, sym, subst, arith}
+use Rattle.std.proofs.Common.{take, sym, subst, arith}
 use Rattle.luf_lex.specs.Cut.{IsCut}
 use Rattle.luf_work.specs.Minified.{hash_text}
 use Rattle.luf_work.proofs.TextLemmas.{piece_within, front_kept}
