@@ -1,14 +1,13 @@
-"""`luafmt minify` on sources of the whole lexis, which it cuts into pieces and then refuses, as not yet of its grammar.
+"""`luafmt minify` on sources of the whole lexis.
 
-So this measures the cut alone. "ordinary" is made Lua of functions, loops, calls, tables, strings and comments; "string"
-and "comment" are one long string and one long comment; "escapes" is short strings full of escapes.
+"ordinary" is made Lua of functions, loops, calls, tables, strings and comments; "string" and "comment" are one long string
+and one long comment; "escapes" is short strings full of escapes.
 """
 import random
 import tempfile
 
 from measure import SIZES, print_head, print_row
 
-NOT_YET = 3
 ESCAPES = ["\\n", "\\t", "\\065", "\\x41", "\\u{20AC}", "\\\\", "\\\"", "\\z  ", "text"]
 
 
@@ -54,7 +53,7 @@ def text_of(shape, size):
 
 
 def main():
-    print_head(1.5)
+    print_head(3)
     with tempfile.TemporaryDirectory() as folder:
         source = f"{folder}/source.lua"
         for shape in ["ordinary", "string", "comment", "escapes"]:
@@ -62,7 +61,7 @@ def main():
             for size in SIZES:
                 with open(source, "w", newline="") as file:
                     file.write(text_of(shape, size))
-                before = print_row(shape, source, source, before, NOT_YET)
+                before = print_row(shape, source, source, before)
 
 
 main()

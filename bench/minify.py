@@ -1,4 +1,4 @@
-"""`luafmt minify` on statements of the small form, which it takes and writes.
+"""`luafmt minify` on `local` statements, which have the most tokens for each byte.
 
 A source is statements `local NAME = VALUE`, in three shapes: "tight" has single spaces and one line, "wide" a line for
 each statement and runs of 24 blanks, and "dense" the shortest statements that there are, which take the most memory for

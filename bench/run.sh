@@ -5,7 +5,7 @@
 #
 # It proves and builds luafmt first (`rt run`: minutes in a new checkout, else a second), makes its sources of 0.5, 1, 2
 # and 4 MiB in a temporary directory, and prints two tables, each with its targets in the second line: minify.py takes
-# statements of the small form, lexis.py the whole lexis. It is no test: its status is 0 whatever the numbers are. It needs
+# `local` statements, lexis.py the whole lexis. It is no test: its status is 0 whatever the numbers are. It needs
 # rt and python3; luac5.4 and /usr/bin/time are left out where they are missing. It needs no network.
 #
 # Seconds are of the processor (user and system), the best of 3 runs, with output to /dev/null. So other work on the machine

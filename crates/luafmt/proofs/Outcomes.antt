@@ -1,5 +1,5 @@
 -- The table of answers, read by its rows.
-use Rattle.std.proofs.Common.{◌≡◌, ◌⊎◌, inl, inr, ℕ, ◌<◌, List, [], ◌++◌, length, codes, Option, Some, None, Err, refl, sym, subst, arith, length-append}
+use Rattle.std.proofs.Common.{◌≡◌, ◌⊎◌, inl, inr, ℕ, ◌<◌, ◌≤◌, List, [], ◌++◌, length, codes, Option, Some, None, Err, refl, sym, ap, subst, arith, length-append}
 use Rattle.luf_io.specs.Source.{Taken}
 use Rattle.luf_io.specs.Read.{PullsWithin}
 use Rattle.luf_io.specs.declared.read.ReadErr.{ReadErr}
@@ -7,8 +7,9 @@ use Rattle.luf_io.specs.declared.read.ReadErr.TheVariants as read
 use Rattle.luf_work.specs.Minified.{IsAccepted, IsMinified}
 use Rattle.luf_work.specs.Refusals.{IsRefused}
 use Rattle.luf_work.specs.declared.refusal.Refusal.{Refusal}
-use Rattle.luf_work.specs.declared.refusal.Refusal.TheVariants.{TooLarge, Lexical, NotYet, Memory}
+use Rattle.luf_work.specs.declared.refusal.Refusal.TheVariants.{TooLarge, Lexical, Syntax, TooDeep, ResultTooLarge, Memory}
 use Rattle.luf_lex.proofs.OneCut.{cut_or_fault}
+use Rattle.luf_work.proofs.RefusalLemmas.{one_minified, no_tree_no_text}
 use Rattle.luafmt.specs.Line.{line_of, refusal_line}
 use Rattle.luafmt.specs.Outcome.{Outcome, IsMinify, Gives, usage, refused, done, AreContents, IsOutcome, RanThrough}
 use Rattle.luafmt.specs.declared.status.Status.{Status}
@@ -18,7 +19,7 @@ use Rattle.luafmt.specs.declared.status.Status.TheVariants.{Done, Usage, Refused
 pub RanThrough-gives : (words : List (List ℕ)) (contents : List ℕ) (w : Outcome) → Gives words contents w → RanThrough w.status
 RanThrough-gives words contents w (usage _ _ _) = tt
 RanThrough-gives words contents w (refused _ _ _ _ _ _ _) = tt
-RanThrough-gives words contents w (done _ _ _ _ _ _) = tt
+RanThrough-gives words contents w (done _ _ _ _ _ _ _) = tt
 
 -- so a status of the table is none of those that cut a run short
 pub runs_through : (words : List (List ℕ)) (left : Option (List ℕ)) (w : Outcome) (s : Status) → IsOutcome words left w → s ≡ w.status → RanThrough s
@@ -32,20 +33,22 @@ none_cut_short s ran (inr e) = subst RanThrough e ran
 pub usage_only : (words : List (List ℕ)) (contents : List ℕ) (w : Outcome) → Gives words contents w → (IsMinify words → ⊥) → w.status ≡ Usage
 usage_only words contents w (usage _ _ _) other = refl
 usage_only words contents w (refused _ _ _ _ m _ _) other = absurd (other m)
-usage_only words contents w (done _ _ _ m _ _) other = absurd (other m)
+usage_only words contents w (done _ _ _ m _ _ _) other = absurd (other m)
 
 -- a source that is accepted has no refusal with a line
 pub not_both : (contents line : List ℕ) (refusal : Refusal) → IsRefused contents refusal → refusal_line refusal ≡ Some line → IsAccepted contents → ⊥
 not_both contents line TooLarge large told a = omega (arith, large, a.within)
-not_both contents line (Lexical place what) fault told a = cut_or_fault contents a.pieces fault.1.at what a.is.cut fault.1.fault
-not_both contents line NotYet other told a = other.1.other a
+not_both contents line (Lexical place what) fault told a = cut_or_fault contents a.minified.pieces fault.1.at what a.minified.is.cut fault.1.fault
+not_both contents line (Syntax place) none told a = no_tree_no_text contents a.text place none.1 a.minified
+not_both contents line (TooDeep place) none told a = no_tree_no_text contents a.text place none.1 a.minified
+not_both contents line ResultTooLarge over told a = omega (arith, over.1.large, a.fits, ap length (one_minified contents over.1.text a.text over.1.minified a.minified))
 not_both contents line Memory any told a = cc
 
 -- an accepted source gives `Done`
 pub done_only : (words : List (List ℕ)) (contents : List ℕ) (w : Outcome) → Gives words contents w → IsMinify words → IsAccepted contents → w.status ≡ Done
 done_only words contents w (usage _ _ other) m a = absurd (other m)
 done_only words contents w (refused _ _ line refusal _ cause told) m a = absurd (not_both contents line refusal cause told a)
-done_only words contents w (done _ _ _ _ _ _) m a = refl
+done_only words contents w (done _ _ _ _ _ _ _) m a = refl
 
 -- the row of words that are no command
 pub usage_of : (words : List (List ℕ)) (contents : List ℕ) (w : Outcome) → w ≡ record { status = Usage; out = []; errs = line_of (codes "luafmt: Usage") } → (IsMinify words → ⊥) → Gives words contents w
@@ -57,7 +60,7 @@ refused_of words contents w refusal m cause h = subst (λ (v : Outcome). Gives w
 
 -- the row of an accepted source, whose text was put into a buffer that was empty
 pub done_of : (words : List (List ℕ)) (contents out : List ℕ) → IsMinify words → IsAccepted contents → ((text : List ℕ) × IsMinified contents text × (out ≡ [] ++ text)) → Gives words contents (record { status = Done; out = out; errs = [] })
-done_of words contents out m a h = subst (λ (text : List ℕ). Gives words contents (record { status = Done; out = text; errs = [] })) (sym h.2) (done words contents h.0 m a.within h.1)
+done_of words contents out m a h = subst (λ (text : List ℕ). Gives words contents (record { status = Done; out = text; errs = [] })) (sym h.2) (done words contents h.0 m a.within h.1 (subst (λ (t : List ℕ). length t ≤ 4194304) (one_minified contents a.text h.0 a.minified h.1) a.fits))
 
 -- every input has contents: those that it tells, or any
 pub contents_of : (left : Option (List ℕ)) → (contents : List ℕ) × AreContents left contents

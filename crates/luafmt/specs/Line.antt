@@ -3,7 +3,8 @@ use Rattle.std.specs.Prelude.{ℕ, List, [], ◌∷◌, ◌++◌, codes, decimal
 use Rattle.luf_lex.specs.declared.fault.LexWhat.{LexWhat}
 use Rattle.luf_lex.specs.declared.fault.LexWhat.TheVariants.{NoToken, BadNumeral, BadEscape, OpenString, OpenLong}
 use Rattle.luf_work.specs.declared.refusal.Refusal.{Refusal}
-use Rattle.luf_work.specs.declared.refusal.Refusal.TheVariants.{TooLarge, Lexical, NotYet, Memory}
+use Rattle.luf_work.specs.declared.refusal.Refusal.TheVariants.{TooLarge, Lexical, Syntax, TooDeep, ResultTooLarge, Memory}
+use Rattle.luf_text.specs.declared.place.Place.{Place}
 
 -- a line of errs, ended by LF
 abbrev pub line_of : List ℕ → List ℕ
@@ -17,10 +18,16 @@ word_of BadEscape = codes "BadEscape"
 word_of OpenString = codes "OpenString"
 word_of OpenLong = codes "OpenLong"
 
+-- a word with its place: line and column in decimal
+abbrev pub placed : Place → List ℕ → List ℕ
+placed place word = codes "-:" ++ decimal place.line ++ codes ":" ++ decimal place.column ++ codes ": " ++ word
+
 -- What tells a refusal of the source from standard input, which is named `-`: its place, where it has one, and its
--- word. Line and column are in decimal. Want of memory has no line.
+-- word. Want of memory has no line.
 abbrev pub refusal_line : Refusal → Option (List ℕ)
 refusal_line TooLarge = Some (codes "-: TooLarge")
-refusal_line (Lexical place what) = Some (codes "-:" ++ decimal place.line ++ codes ":" ++ decimal place.column ++ codes ": " ++ word_of what)
-refusal_line NotYet = Some (codes "-: NotYet")
+refusal_line (Lexical place what) = Some (placed place (word_of what))
+refusal_line (Syntax place) = Some (placed place (codes "Syntax"))
+refusal_line (TooDeep place) = Some (placed place (codes "TooDeep"))
+refusal_line ResultTooLarge = Some (codes "-: ResultTooLarge")
 refusal_line Memory = None

@@ -24,7 +24,7 @@ pub data Gives : List (List ℕ) → List ℕ → Outcome → Type 0 where
       → Gives words contents (record { status = Usage; out = []; errs = line_of (codes "luafmt: Usage") })
   refused : (words : List (List ℕ)) (contents line : List ℕ) (refusal : Refusal) → IsMinify words → IsRefused contents refusal → refusal_line refusal ≡ Some line
       → Gives words contents (record { status = Refused; out = []; errs = line_of line })
-  done : (words : List (List ℕ)) (contents text : List ℕ) → IsMinify words → length contents ≤ 4194304 → IsMinified contents text
+  done : (words : List (List ℕ)) (contents text : List ℕ) → IsMinify words → length contents ≤ 4194304 → IsMinified contents text → length text ≤ 4194304
       → Gives words contents (record { status = Done; out = text; errs = [] })
 
 -- the contents of an input: those that it tells, where it tells any

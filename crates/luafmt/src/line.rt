@@ -1,7 +1,7 @@
 //! The line that tells a refusal.
-ghost use Rattle.std.specs.Prelude.{◌≡◌, ◌++◌, codes, decimal, string_bytes, Some, option_map, IfOk};
+ghost use Rattle.std.specs.Prelude.{◌≡◌, string_bytes, Some, option_map, IfOk};
 ghost use Rattle.std.specs.Cow.{cow_str_bytes};
-ghost use Rattle.luafmt.specs.Line.{line_of, word_of, refusal_line as spec_refusal_line};
+ghost use Rattle.luafmt.specs.Line.{line_of, placed, word_of, refusal_line as spec_refusal_line};
 
 use luf_lex::LexWhat;
 use luf_memory::Memory;
@@ -17,18 +17,20 @@ pub(crate) fn refusal_line(alloc: Global, refusal: Refusal) -> Result<CowStr<'st
 {
     match refusal {
         Refusal::TooLarge => Ok(CowStr::Borrowed("-: TooLarge\n")),
-        Refusal::Lexical(place, what) => Ok(CowStr::Owned(lexical_line(alloc, place, what)?)),
-        Refusal::NotYet => Ok(CowStr::Borrowed("-: NotYet\n")),
+        Refusal::Lexical(place, what) => {
+            Ok(CowStr::Owned(placed_line(alloc, place, word(what))?))
+        }
+        Refusal::Syntax(place) => Ok(CowStr::Owned(placed_line(alloc, place, "Syntax")?)),
+        Refusal::TooDeep(place) => Ok(CowStr::Owned(placed_line(alloc, place, "TooDeep")?)),
+        Refusal::ResultTooLarge => Ok(CowStr::Borrowed("-: ResultTooLarge\n")),
         Refusal::Memory => Err(Memory),
     }
 }
 
-fn lexical_line(alloc: Global, place: Place, what: LexWhat) -> Result<String, Memory>
-    ensures { IfOk result (λ text. string_bytes text ≡ line_of (codes "-:" ++ decimal place.line
-        ++ codes ":" ++ decimal place.column ++ codes ": " ++ word_of what)) }
+fn placed_line(alloc: Global, place: Place, word: &str) -> Result<String, Memory>
+    ensures { IfOk result (λ text. string_bytes text ≡ line_of (placed place word.now)) }
 {
     let Place { line, column } = place;
-    let word = word(what);
     Ok(format!(in alloc; "-:{line}:{column}: {word}\n")?)
 }
 

@@ -11,9 +11,13 @@ fn words_of(alloc: Global, line: &str) -> Result<Vec<String>, AllocError> {
     Ok(words)
 }
 
-// So many spaces. The number is a parameter so that no proof writes out the list.
-fn spaces(alloc: Global, len: usize) -> Result<Vec<u8>, AllocError> {
-    vec![in alloc; b' '; len]
+// So many times this byte behind a front. The number is a parameter so that no proof writes out the list.
+fn repeated(alloc: Global, front: &str, byte: u8, count: usize) -> Result<Vec<u8>, Fail> {
+    let mut bytes = front.as_bytes().to_vec(alloc)?;
+    for _ in 0..count {
+        bytes.push(byte)?;
+    }
+    Ok(bytes)
 }
 
 // What a run over objects in memory answers and writes.
@@ -52,13 +56,21 @@ fn rows(rt: HostRuntime) -> Result<(), Fail> {
             "",
         ),
         ("minify", "", Status::Done, "", ""),
-        ("minify", "x=1", Status::Refused, "", "-: NotYet\n"),
+        ("minify", "f ( ) ; g{}", Status::Done, "f();g{}", ""),
         (
             "minify",
             "#!lua\nreturn x",
+            Status::Done,
+            "#!lua\nreturn x",
+            "",
+        ),
+        ("minify", "x = = 1", Status::Refused, "", "-:1:5: Syntax\n"),
+        (
+            "minify",
+            "return (\n",
             Status::Refused,
             "",
-            "-: NotYet\n",
+            "-:2:1: Syntax\n",
         ),
         ("", "", Status::Usage, "", "luafmt: Usage\n"),
         ("format", "", Status::Usage, "", "luafmt: Usage\n"),
@@ -93,15 +105,20 @@ fn lexical_refusals(rt: HostRuntime) -> Result<(), Fail> {
     Ok(())
 }
 
+// The limits of a source, of its text, and of its levels.
 #[test]
-fn a_source_that_is_too_large(rt: HostRuntime) -> Result<(), Fail> {
+fn limits(rt: HostRuntime) -> Result<(), Fail> {
     let alloc = rt.alloc();
     let words = words_of(alloc, "minify")?;
-    for (len, status, refusal) in [
-        (4194304, Status::Done, ""),
-        (4194305, Status::Refused, "-: TooLarge\n"),
+    for (front, byte, count, status, refusal) in [
+        ("", b' ', 4194304, Status::Done, ""),
+        ("", b' ', 4194305, Status::Refused, "-: TooLarge\n"),
+        ("#", b'a', 4194303, Status::Refused, "-: ResultTooLarge\n"),
+        ("return ", b'(', 200, Status::Refused, "-:1:208: Syntax\n"),
+        ("return ", b'(', 201, Status::Refused, "-:1:208: TooDeep\n"),
     ] {
-        let mut input = MemSource::new(spaces(alloc, len)?, 100000, Vec::new(alloc));
+        let source = repeated(alloc, front, byte, count)?;
+        let mut input = MemSource::new(source, 100000, Vec::new(alloc));
         let mut out = MemSink::new(alloc, 0, 1, Vec::new(alloc))?;
         let mut errs = MemSink::new(alloc, 100, 100, Vec::new(alloc))?;
         let result = run::run(
@@ -112,8 +129,8 @@ fn a_source_that_is_too_large(rt: HostRuntime) -> Result<(), Fail> {
             &mut out,
             &mut errs,
         );
-        assert_eq!(rt; result, status, "{len}");
-        assert_eq!(rt; errs.written(), refusal.as_bytes(), "{len}");
+        assert_eq!(rt; result, status, "{count}");
+        assert_eq!(rt; errs.written(), refusal.as_bytes(), "{count}");
     }
     Ok(())
 }

@@ -1,3 +1,5 @@
-pub mod CutText
-pub mod RefusalLemmas
+pub mod FirstByte
+pub mod TokensCut
+pub mod TextAgain
 pub mod TextLemmas
+pub mod RefusalLemmas

@@ -1,4 +1,3 @@
-pub mod Errors
 pub mod Minified
 pub mod Refusals
 pub mod Text

@@ -1,13 +1,16 @@
--- The text of tokens.
-use Rattle.std.specs.Prelude.{ℕ, ◌&&◌, if◌then◌else◌, List, [], ◌∷◌, ◌++◌, reverse}
-use Rattle.luf_lex.specs.Byte.{is_word_byte, begins}
+-- The text of tokens. Our own rules.
+use Rattle.std.specs.Prelude.{ℕ, Option, Some, None, List, [], ◌∷◌, ◌++◌}
+use Rattle.luf_guard.specs.Space.{StandApart, NeedSpace}
 
--- what stands between two tokens: one space where the bytes on both sides are letters, digits or `_`, else nothing
-abbrev pub between : List ℕ → List ℕ → List ℕ
-between a b = if begins is_word_byte (reverse a) && begins is_word_byte b then 32 ∷ [] else []
+-- Spellings joined with the fewest spaces: one exactly where two neighbours need it.
+pub data IsJoined : List (List ℕ) → List ℕ → Type 0 where
+  nothing : IsJoined [] []
+  alone : {a : List ℕ} → IsJoined (a ∷ []) a
+  apart : {a b text : List ℕ} {rest : List (List ℕ)} → StandApart a b → IsJoined (b ∷ rest) text → IsJoined (a ∷ b ∷ rest) (a ++ text)
+  spaced : {a b text : List ℕ} {rest : List (List ℕ)} → NeedSpace a b → IsJoined (b ∷ rest) text → IsJoined (a ∷ b ∷ rest) (a ++ 32 ∷ text)
 
--- the tokens in order
-abbrev pub text_of : List (List ℕ) → List ℕ
-text_of [] = []
-text_of (a ∷ []) = a
-text_of (a ∷ b ∷ rest) = a ++ between a b ++ text_of (b ∷ rest)
+-- what one more spelling adds behind the one before, if there is one
+pub data IsNext : Option (List ℕ) → List ℕ → List ℕ → Type 0 where
+  first : {b : List ℕ} → IsNext None b b
+  next_apart : {a b : List ℕ} → StandApart a b → IsNext (Some a) b b
+  next_spaced : {a b : List ℕ} → NeedSpace a b → IsNext (Some a) b (32 ∷ b)

@@ -1,25 +1,32 @@
 // `minify`: the tokens of a source with the fewest spaces.
-ghost use Rattle.std.specs.Prelude.{◌≡◌, ◌<◌, ◌≤◌, ◌^◌, ◌↔◌, ◌++◌, ℕ, List, length, IfOk, IfErr, OnOk, OnErr, IsErrOf};
+ghost use Rattle.std.specs.Prelude.{◌≡◌, ◌<◌, ◌≤◌, ◌^◌, ◌↔◌, ◌++◌, ℕ, List, length, take, IfOk, IfErr, OnOk, OnErr, IsErrOf};
+ghost use Rattle.luf_text.specs.Place.{place_in};
 ghost use Rattle.luf_lex.specs.Cut.{IsCut};
-ghost use Rattle.luf_work.specs.Minified.{has_hash_line as spec_has_hash_line, IsAccepted, IsMinified, SameTokens};
-ghost use Rattle.luf_work.specs.Refusals.{IsRefused};
+ghost use Rattle.luf_lex.specs.Tokens.{toks_of, spellings_of};
+ghost use Rattle.luf_tree.specs.Grammar.{IsChunk};
+ghost use Rattle.luf_tree.specs.Level.{depth_of};
+ghost use Rattle.luf_work.specs.Minified.{hash_text, IsAccepted, IsMinified, SameTokens};
+ghost use Rattle.luf_work.specs.Refusals.{start_of, IsRefused};
+ghost use Rattle.luf_work.specs.Text.{IsJoined};
 
 use crate::Refusal;
-use crate::text::write_text;
-use luf_lex::{Cut, Kind, LexErr, Piece, cut};
-use luf_text::place_of;
-use luf_small::small;
+use crate::text::{write_hash_line, write_tokens};
+use luf_lex::{Cut, LexErr, cut};
+use luf_memory::Memory;
+use luf_parse::{ParseErr, parse};
+use luf_text::{Place, place_of};
+use luf_tree::Chunk;
 use std::alloc::Global;
 
-/// The most bytes that a source may have.
+/// The most bytes that a source may have, and a text.
 const MOST: usize = 4194304;
 
 /// Appends the minified text of a source. An error leaves `into` as it was.
 ///
 /// # Errors
 ///
-/// `TooLarge` for a source above the limit, `Lexical` for one that has no cut, `NotYet` for one that has a cut but a
-/// `#` line, or tokens that are not of the small form; `Memory`.
+/// `TooLarge` for a source above the limit, `Lexical` for one that has no cut, `Syntax` and `TooDeep` for one whose
+/// tokens have no tree, `ResultTooLarge` for one whose text is above the limit; `Memory`.
 pub fn minify_bytes(alloc: Global, src: &[u8], into: &mut Vec<u8>) -> Result<(), Refusal>
     ensures accepted { OnOk result (IsAccepted src.now) }
     ensures minified { OnOk result ((text : List ℕ) × IsMinified src.now text × (into.new.items ≡ into.old.items ++ text)) }
@@ -33,16 +40,15 @@ pub fn minify_bytes(alloc: Global, src: &[u8], into: &mut Vec<u8>) -> Result<(),
         return Err(Refusal::TooLarge);
     }
     let pieces = pieces_of(alloc, src)?;
-    if has_hash_line(pieces.pieces()) {
-        return Err(Refusal::NotYet);
-    }
-    if let Err(e) = small(alloc, src, &pieces) {
-        return Err(Refusal::from(e));
-    }
+    let _chunk = tree_of(alloc, src, &pieces)?;
     let len = into.len();
     if let Err(e) = write_text(src, &pieces, into) {
         into.truncate(len);
         return Err(Refusal::from(e));
+    }
+    if into.len() - len > MOST {
+        into.truncate(len);
+        return Err(Refusal::ResultTooLarge);
     }
     Ok(())
 }
@@ -61,10 +67,45 @@ fn pieces_of(alloc: Global, src: &[u8]) -> Result<Cut, Refusal>
     }
 }
 
-fn has_hash_line(pieces: &[Piece]) -> bool
-    ensures { result ≡ spec_has_hash_line pieces.now }
+/// The tree of a source's tokens, or the place of the token at which it has none.
+fn tree_of(alloc: Global, src: &[u8], pieces: &Cut) -> Result<Chunk, Refusal>
+    requires within { length src.now ≤ 4194304 }
+    requires cut { IsCut src.now pieces.now }
+    ensures tree { IfOk result (λ chunk. IsChunk (toks_of pieces.now) chunk) }
+    ensures levels { IfOk result (λ chunk. depth_of chunk ≤ 200) }
+    ensures refused { IfErr result (IsRefused src.now) }
+    ensures within { ¬ IsErrOf result Refusal.TooLarge }
 {
-    pieces
-        .iter()
-        .any(|piece| matches!(piece.kind, Kind::HashLine))
+    match parse(alloc, pieces) {
+        Ok(chunk) => Ok(chunk),
+        Err(ParseErr::Syntax { token }) => Err(Refusal::Syntax(place_of_token(src, pieces, token))),
+        Err(ParseErr::TooDeep { token }) => Err(Refusal::TooDeep(place_of_token(
+            src, pieces, token,
+        ))),
+        Err(ParseErr::Memory) => Err(Refusal::Memory),
+    }
+}
+
+/// The place of a token, or of the end of the source where there are not so many.
+fn place_of_token(src: &[u8], pieces: &Cut, token: u32) -> Place
+    requires within { length src.now ≤ 4194304 }
+    requires cut { IsCut src.now pieces.now }
+    ensures { result ≡ place_in src.now (start_of src.now pieces.now token) }
+{
+    match pieces.span(token) {
+        Some(span) => place_of(src, span.from),
+        None => place_of(src, src.len() as u32),
+    }
+}
+
+/// Appends the `#` line and the tokens. What an error leaves begins with what was there.
+fn write_text(src: &[u8], pieces: &Cut, into: &mut Vec<u8>) -> Result<(), Memory>
+    requires { IsCut src.now pieces.now }
+    ensures ok { OnOk result ((tokens : List ℕ) × IsJoined (spellings_of src.now pieces.now) tokens × (into.new.items ≡ into.old.items ++ (hash_text src.now pieces.now ++ tokens))) }
+    ensures err { OnErr result (take (length into.old.items) into.new.items ≡ into.old.items) }
+{
+    if let Err(e) = write_hash_line(src, pieces, into) {
+        return Err(e);
+    }
+    write_tokens(src, pieces, into)
 }

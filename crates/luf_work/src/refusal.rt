@@ -2,7 +2,6 @@
 use luf_lex::LexWhat;
 use luf_memory::Memory;
 use luf_text::Place;
-use luf_small::SmallErr;
 
 /// Why a job gives no text.
 #[derive(Clone, Copy, Debug, PartialEq, Eq)]
@@ -11,24 +10,14 @@ pub enum Refusal {
     TooLarge,
     /// The source has no cut into pieces: where its first fault is, and which.
     Lexical(Place, LexWhat),
-    /// The source begins with a `#` line, or its tokens are not of the small form.
-    NotYet,
+    /// The grammar does not go on with the token at this place, or with the end of the source.
+    Syntax(Place),
+    /// The token at this place enters level 201.
+    TooDeep(Place),
+    /// The text would have more than 4,194,304 bytes.
+    ResultTooLarge,
     /// No memory was found.
     Memory,
-}
-
-impl From<SmallErr> for Refusal {
-    ghost use Rattle.luf_work.specs.Errors.{small_refusal};
-    ghost use Rattle.std.specs.Prelude.{◌≡◌};
-
-    ghost from_gives = { λ e r. r ≡ small_refusal e };
-
-    fn from(e: SmallErr) -> Refusal {
-        match e {
-            SmallErr::NotYet => Refusal::NotYet,
-            SmallErr::Memory => Refusal::Memory,
-        }
-    }
 }
 
 impl From<Memory> for Refusal {

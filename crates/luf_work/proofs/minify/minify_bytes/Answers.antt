@@ -1,22 +1,48 @@
-use Rattle.std.proofs.Common.{Err, sym, ap, ◌∙◌, arith}
-use Rattle.luf_lex.specs.Tokens.{spellings_of}
-use Rattle.luf_work.specs.Minified.{has_hash_line}
-use Rattle.luf_work.specs.Text.{text_of}
-use Rattle.luf_work.proofs.RefusalLemmas.{has_hash, small_cause}
-use Rattle.luf_work.proofs.CutText.{same_tokens}
+use Rattle.std.proofs.Common.{◌++◌, length, length-append, ap, arith}
+use Rattle.luf_work.specs.Minified.{hash_text}
+use Rattle.luf_work.proofs.RefusalLemmas.{minified_of}
+use Rattle.luf_work.proofs.TextAgain.{same_tokens}
 use Rattle.luf_work.proofs.minify.minify_bytes.Goals as goal
 
-pub returns-then-has_hash_line-clause-refused : goal.returns-then-has_hash_line-clause-refused
-returns-then-has_hash_line-clause-refused c =
-    (omega (arith, c.if-src-gt-MOST.false), has_hash c.args.src.now c.in_ok-pieces.pieces c.in_ok-pieces.ensures.ok (ap has_hash_line (sym c.pieces-2.ensures) ∙ sym c.has_hash_line.ensures ∙ c.if-has_hash_line.true))
+pub returns-then-len-gt-MOST-clause-refused : goal.returns-then-len-gt-MOST-clause-refused
+returns-then-len-gt-MOST-clause-refused c =
+    let source = c.args.src.now in
+    let pieces = c.in_ok-pieces.pieces in
+    let written = c.in_default.ensures.ok in
+    let text = hash_text source pieces ++ written.0 in (
+      omega (arith, c.if-src-gt-MOST.false),
+      record {
+        text = text;
+        minified = minified_of source pieces c.in_ok-_chunk._chunk written.0 c.in_ok-pieces.ensures.ok c.in_ok-_chunk.ensures.tree c.in_ok-_chunk.ensures.levels written.1;
+        large = omega (arith, c.if-len-gt-MOST.true, ap length written.2, length-append c.args.into.now.items text, c.len-len.ensures);
+      },
+    )
 
-pub returns-in-Err-clause-refused : goal.returns-in-Err-clause-refused
-returns-in-Err-clause-refused c =
-    small_cause c.args.src.now c.in_ok-pieces.pieces c.in-Err.e c.from.result (omega (arith, c.if-src-gt-MOST.false)) c.in_ok-pieces.ensures.ok (λ e. c.in-Err.ensures.not_yet (ap Err e)) c.from.ensures
+pub returns-clause-accepted : goal.returns-clause-accepted
+returns-clause-accepted c =
+    let source = c.args.src.now in
+    let pieces = c.in_ok-pieces.pieces in
+    let written = c.in_default.ensures.ok in
+    let text = hash_text source pieces ++ written.0 in
+    record {
+      within = omega (arith, c.if-src-gt-MOST.false);
+      text = text;
+      minified = minified_of source pieces c.in_ok-_chunk._chunk written.0 c.in_ok-pieces.ensures.ok c.in_ok-_chunk.ensures.tree c.in_ok-_chunk.ensures.levels written.1;
+      fits = omega (arith, c.if-len-gt-MOST.false, ap length written.2, length-append c.args.into.now.items text, c.len-len.ensures);
+    }
+
+pub returns-clause-minified : goal.returns-clause-minified
+returns-clause-minified c =
+    let written = c.in_default.ensures.ok in (
+      hash_text c.args.src.now c.in_ok-pieces.pieces ++ written.0,
+      minified_of c.args.src.now c.in_ok-pieces.pieces c.in_ok-_chunk._chunk written.0 c.in_ok-pieces.ensures.ok c.in_ok-_chunk.ensures.tree c.in_ok-_chunk.ensures.levels written.1,
+      written.2,
+    )
 
 pub returns-clause-same_tokens : goal.returns-clause-same_tokens
-returns-clause-same_tokens c = (
-  text_of (spellings_of c.args.src.now c.in_ok-pieces.pieces),
-  same_tokens c.args.src.now c.in_ok-pieces.pieces c.in_default.field-0 c.in_ok-pieces.ensures.ok (ap has_hash_line (sym c.pieces-2.ensures) ∙ sym c.has_hash_line.ensures ∙ c.if-has_hash_line.false) c.in_default.ensures.ok,
-  c.in_default-write_text.ensures.ok,
-)
+returns-clause-same_tokens c =
+    let written = c.in_default.ensures.ok in (
+      hash_text c.args.src.now c.in_ok-pieces.pieces ++ written.0,
+      same_tokens c.args.src.now c.in_ok-pieces.pieces c.in_ok-_chunk._chunk written.0 (record { cut = c.in_ok-pieces.ensures.ok; tree = c.in_ok-_chunk.ensures.tree; levels = c.in_ok-_chunk.ensures.levels }) written.1,
+      written.2,
+    )

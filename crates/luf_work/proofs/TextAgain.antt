@@ -1,0 +1,236 @@
+-- The text of a source has its tokens.
+use Rattle.std.proofs.Common.{◌≡◌, ℕ, zero, suc, ◌+◌, ◌<◌, ◌≤◌, inl, inr, Bool, true, false, cond, eqb, List, [], ◌∷◌, ◌++◌, Some, length, length-append, append-nil, append_assoc, take, drop, get_or, refl, sym, ap, ◌∙◌, subst, arith}
+use Rattle.std.specs.List.{prefix_len}
+use Rattle.std.specs.Prelude.{slice_range, slice_get, map}
+use Rattle.std.proofs.Math.Seq.{drop-append_seam, drop-drop}
+use Rattle.std.proofs.lemmas.Bool.{cond-true, cond-false, and_left, false≢true}
+use Rattle.std.proofs.lemmas.Bool.Decides.{nat_tests}
+use Rattle.std.proofs.lemmas.List.{length-map}
+use Rattle.luf_str.specs.Bytes.{is_line_byte}
+use Rattle.luf_lex.specs.Byte.{in_line, begins}
+use Rattle.luf_lex.specs.Spelling.{Spells, IsLineEnd, IsHashLine}
+use Rattle.luf_lex.specs.First.{Group, Quoted, IsFirst, is_tried, group_of}
+use Rattle.luf_lex.specs.Cut.{Cuts, IsCut, mark_length, hash_length, head_of, head_end}
+use Rattle.luf_lex.specs.Tokens.{tokens_of, toks_of, spellings_of}
+use Rattle.luf_lex.specs.declared.token.Tok.{Tok}
+use Rattle.luf_lex.specs.declared.token.Kind.{Kind}
+use Rattle.luf_lex.specs.declared.token.Kind.TheVariants.{Token, LineEnd, HashLine, Mark}
+use Rattle.luf_lex.specs.declared.token.Piece.{Piece}
+use Rattle.luf_lex.proofs.RunLemmas.{front_passes, begins_take}
+use Rattle.luf_lex.proofs.TokenLemmas.{length_tokens}
+use Rattle.luf_lex.proofs.PlainLemmas.{line_end_first}
+use Rattle.luf_tree.specs.declared.tree.Chunk.{Chunk}
+use Rattle.luf_tree.specs.Grammar.{At, IsChunk}
+use Rattle.luf_tree.proofs.TokenLaws.{chunk_no_hash, bracket_no_equal}
+use Rattle.luf_work.specs.Minified.{is_hash_line, hash_text, IsSource, SameTokens}
+use Rattle.luf_work.specs.Text.{IsJoined, nothing, alone, apart, spaced}
+use Rattle.luf_guard.proofs.Before.{spelled_some}
+use Rattle.luf_guard.proofs.Spellings.{SpelledAt, spelled_at}
+use Rattle.luf_guard.proofs.Words.{run_before, begins_some, begins_front}
+use Rattle.luf_work.proofs.FirstByte.{no_line, no_mark, no_hash}
+use Rattle.luf_work.proofs.TokensCut.{Spelled, BracketsStop, TextCut, with_other, text_cut}
+
+-- ---- the tokens of a cut
+
+abbrev bytes_of : List ℕ → Piece → List ℕ
+bytes_of source p = slice_range source p.span.from p.span.to
+
+-- each is spelled as it is in the source
+pub length_spellings : (source : List ℕ) (pieces : List Piece) → length (spellings_of source pieces) ≡ length (toks_of pieces)
+length_spellings source pieces = length-map (tokens_of pieces) (bytes_of source) ∙ length_tokens pieces
+
+all_spelled : (toks : List Tok) (spellings : List (List ℕ)) → length spellings ≡ length toks → ((n : ℕ) (a : List ℕ) → slice_get spellings n ≡ Some a → SpelledAt toks n a) → Spelled toks spellings
+all_spelled [] [] size each = tt
+all_spelled [] (a ∷ spellings) size each = absurd (omega (arith, size))
+all_spelled (t ∷ toks) [] size each = absurd (omega (arith, size))
+all_spelled (t ∷ toks) (a ∷ spellings) size each =
+    let one = each 0 a refl in
+    let same : one.0 ≡ t = cc (one.1) in
+    (subst (λ (u : Tok). Spells (Token u) a) same one.2, all_spelled toks spellings (omega (arith, size)) (λ n b found. each (suc n) b found))
+
+spelled_in : (source : List ℕ) (pieces : List Piece) → IsCut source pieces → Spelled (toks_of pieces) (spellings_of source pieces)
+spelled_in source pieces cut = all_spelled (toks_of pieces) (spellings_of source pieces) (length_spellings source pieces) (spelled_at source pieces cut)
+
+-- ---- the head of a cut
+
+-- what stands at the head of a source, where a mark ends at m and a `#` line at n
+abbrev pub marked : Bool → ℕ → List Piece
+marked none m = cond none [] (record { kind = Mark; span = record { from = 0; to = m } } ∷ [])
+
+abbrev pub hashed : Bool → ℕ → ℕ → List Piece
+hashed none m n = cond none [] (record { kind = HashLine; span = record { from = m; to = n } } ∷ [])
+
+-- the pieces of the head are no tokens
+head_tokens : (v w : Bool) (m n : ℕ) (rest : List Piece) → (toks_of ((marked v m ++ hashed w m n) ++ rest) ≡ toks_of rest) × (tokens_of ((marked v m ++ hashed w m n) ++ rest) ≡ tokens_of rest)
+head_tokens true true m n rest = (refl, refl)
+head_tokens true false m n rest = (refl, refl)
+head_tokens false true m n rest = (refl, refl)
+head_tokens false false m n rest = (refl, refl)
+
+toks_behind : (source : List ℕ) (rest : List Piece) → (toks_of (head_of source ++ rest) ≡ toks_of rest) × (spellings_of source (head_of source ++ rest) ≡ spellings_of source rest)
+toks_behind source rest =
+    let tokens = head_tokens (eqb (mark_length source) 0) (eqb (head_end source) (mark_length source)) (mark_length source) (head_end source) rest in
+    (tokens.0, ap (map (bytes_of source)) tokens.1)
+
+-- ---- the `#` line of a cut
+
+no_hash_tried : (g : Group) → is_tried g HashLine ≡ true → ⊥
+no_hash_tried Quoted h = false≢true h
+no_hash_tried _ h = false≢true h
+
+tried_no_hash : (g : Group) (k : Kind) → is_tried g k ≡ true → is_hash_line k ≡ false
+tried_no_hash g HashLine h = absurd (no_hash_tried g h)
+tried_no_hash g _ h = refl
+
+-- no `#` line stands behind the head
+no_hash_behind : (source : List ℕ) (at : ℕ) (pieces : List Piece) (to : ℕ) → Cuts source at pieces to → hash_text source pieces ≡ []
+no_hash_behind source at [] to cut = refl
+no_hash_behind source at (p ∷ pieces) to cut =
+    ap (λ v. cond v (bytes_of source p ++ 10 ∷ []) [] ++ hash_text source pieces) (tried_no_hash (group_of (drop at source)) p.kind cut.2.tried)
+    ∙ no_hash_behind source p.span.to pieces to cut.3
+
+hash_none : (source : List ℕ) (v : Bool) (m n : ℕ) (rest : List Piece) → hash_text source ((marked v m ++ hashed true m n) ++ rest) ≡ hash_text source rest
+hash_none source true m n rest = refl
+hash_none source false m n rest = refl
+
+hash_there : (source : List ℕ) (v : Bool) (m n : ℕ) (rest : List Piece) → hash_text source ((marked v m ++ hashed false m n) ++ rest) ≡ (slice_range source m n ++ 10 ∷ []) ++ hash_text source rest
+hash_there source true m n rest = refl
+hash_there source false m n rest = refl
+
+-- so its text is nothing where the head has none, and else the line and a line feed
+hash_text_none : (source : List ℕ) (pieces : List Piece) → IsCut source pieces → eqb (head_end source) (mark_length source) ≡ true → hash_text source pieces ≡ []
+hash_text_none source pieces cut none =
+    ap (hash_text source) cut.head
+    ∙ ap (λ w. hash_text source ((marked (eqb (mark_length source) 0) (mark_length source) ++ hashed w (mark_length source) (head_end source)) ++ cut.rest)) none
+    ∙ hash_none source (eqb (mark_length source) 0) (mark_length source) (head_end source) cut.rest
+    ∙ no_hash_behind source (head_end source) cut.rest (length source) cut.cut
+
+hash_text_there : (source : List ℕ) (pieces : List Piece) → IsCut source pieces → eqb (head_end source) (mark_length source) ≡ false → hash_text source pieces ≡ slice_range source (mark_length source) (head_end source) ++ 10 ∷ []
+hash_text_there source pieces cut some =
+    ap (hash_text source) cut.head
+    ∙ ap (λ w. hash_text source ((marked (eqb (mark_length source) 0) (mark_length source) ++ hashed w (mark_length source) (head_end source)) ++ cut.rest)) some
+    ∙ hash_there source (eqb (mark_length source) 0) (mark_length source) (head_end source) cut.rest
+    ∙ ap (λ t. (slice_range source (mark_length source) (head_end source) ++ 10 ∷ []) ++ t) (no_hash_behind source (head_end source) cut.rest (length source) cut.cut)
+    ∙ append-nil (slice_range source (mark_length source) (head_end source) ++ 10 ∷ [])
+
+-- what the head counts as a `#` line is one
+hash_front : (text : List ℕ) (v : Bool) → begins (λ b. eqb b 35) text ≡ v → 0 < cond v (prefix_len in_line text) 0 → IsHashLine (take (cond v (prefix_len in_line text) 0) text)
+hash_front text true e some = record { first = begins_take (λ b. eqb b 35) text (prefix_len in_line text) some ∙ e; each = front_passes in_line text }
+hash_front text false e some = absurd (omega (arith, some))
+
+hash_line_in : (source : List ℕ) → eqb (head_end source) (mark_length source) ≡ false → IsHashLine (slice_range source (mark_length source) (head_end source))
+hash_line_in source some =
+    let text : List ℕ = drop (mark_length source) source in
+    let more : 0 < hash_length text = grind (arith, nat_tests) in
+    subst (λ n. IsHashLine (take n text)) (omega arith) (hash_front text (begins (λ b. eqb b 35) text) refl more)
+
+-- ---- the head of a text
+
+-- what tokens are joined to begins as the first of them does
+joined_apart : (p : ℕ → Bool) (toks : List Tok) {spellings : List (List ℕ)} {text : List ℕ} → IsJoined spellings text → Spelled toks spellings
+    → ((t : Tok) (a : List ℕ) → At toks 0 t → Spells (Token t) a → begins p a ≡ false) → begins p text ≡ false
+joined_apart p toks nothing h none = refl
+joined_apart p [] alone h none = absurd h
+joined_apart p (t ∷ toks) (alone {a}) h none = none t a refl h.0
+joined_apart p [] (apart s j) h none = absurd h
+joined_apart p (t ∷ toks) (apart {a} {text} s j) h none = begins_front p a text (spelled_some t a h.0) ∙ none t a refl h.0
+joined_apart p [] (spaced s j) h none = absurd h
+joined_apart p (t ∷ toks) (spaced {a} {text} s j) h none = begins_front p a (32 ∷ text) (spelled_some t a h.0) ∙ none t a refl h.0
+
+no_mark_length : (text : List ℕ) → begins (λ b. eqb 239 b) text ≡ false → mark_length text ≡ 0
+no_mark_length [] h = refl
+no_mark_length (b ∷ text) h = cond-false _ _ _ (and_left _ _ h)
+
+no_hash_length : (text : List ℕ) → begins (λ b. eqb b 35) text ≡ false → hash_length text ≡ 0
+no_hash_length text h = cond-false _ _ _ h
+
+-- where the head ends
+end_of : (text : List ℕ) (n : ℕ) → mark_length text ≡ 0 → hash_length text ≡ n → head_end text ≡ n
+end_of text n mark hash =
+    let behind : hash_length (drop (mark_length text) text) ≡ n = ap (λ i. hash_length (drop i text)) mark ∙ hash in
+    omega (arith, mark, behind)
+
+hash_no_mark : (a : List ℕ) → begins (λ b. eqb b 35) a ≡ true → begins (λ b. eqb 239 b) a ≡ false
+hash_no_mark [] h = refl
+hash_no_mark (b ∷ a) h = grind (arith, nat_tests)
+
+-- a `#` line and a line feed end the head behind the line
+hash_end : (a x : List ℕ) → IsHashLine a → head_end (a ++ 10 ∷ x) ≡ length a
+hash_end a x h =
+    let some = begins_some (λ b. eqb b 35) a h.first in
+    end_of (a ++ 10 ∷ x) (length a)
+    (no_mark_length (a ++ 10 ∷ x) (begins_front (λ b. eqb 239 b) a (10 ∷ x) some ∙ hash_no_mark a h.first))
+    (cond-true _ _ _ (begins_front (λ b. eqb b 35) a (10 ∷ x) some ∙ h.first) ∙ run_before in_line a (10 ∷ x) h.each refl)
+
+-- a line feed before what begins with no byte of a line end is a piece
+feed_longest : (x : List ℕ) (m : ℕ) → begins is_line_byte x ≡ false → 1 < m → m ≤ length (10 ∷ x) → IsLineEnd (take m (10 ∷ x)) → ⊥
+feed_longest x zero stop more within is = omega (arith, more)
+feed_longest x (suc zero) stop more within is = omega (arith, more)
+feed_longest [] (suc (suc m)) stop more within is = omega (arith, within)
+feed_longest (c ∷ x) (suc (suc m)) stop more within (inl e) = omega (arith, ap length e)
+feed_longest (c ∷ x) (suc (suc m)) stop more within (inr (inl e)) = omega (arith, ap length e)
+feed_longest (c ∷ x) (suc (suc m)) stop more within (inr (inr (inl e))) =
+    let last : c ≡ 13 = ap (λ (l : List ℕ). get_or l 1 0) e in
+    false≢true (sym stop ∙ ap is_line_byte last)
+feed_longest (c ∷ x) (suc (suc m)) stop more within (inr (inr (inr e))) = omega (arith, ap (λ (l : List ℕ). get_or l 0 0) e)
+
+feed_first : (x : List ℕ) → begins is_line_byte x ≡ false → IsFirst (10 ∷ x) LineEnd 1
+feed_first x stop = line_end_first (10 ∷ x) 1 refl refl (omega arith) (inl refl) (λ m more within is. feed_longest x m stop more within is)
+
+-- ---- the tokens of the text
+
+-- a text that is cut into the tokens of a source behind its own head
+whole : (source text : List ℕ) (pieces : List Piece) (chunk : Chunk) → IsSource source pieces chunk → TextCut text (head_end text) (toks_of pieces) (spellings_of source pieces) → SameTokens source text
+whole source text pieces chunk is again =
+    let behind = toks_behind text again.pieces in
+    let toks : toks_of (head_of text ++ again.pieces) ≡ toks_of pieces = behind.0 ∙ again.toks_are in
+    record {
+      pieces = pieces;
+      others = head_of text ++ again.pieces;
+      chunk = chunk;
+      is = is;
+      same = record {
+        cut = record { rest = again.pieces; head = refl; cut = again.cut };
+        tree = subst (λ (ts : List Tok). IsChunk ts chunk) (sym toks) is.tree;
+        levels = is.levels;
+      };
+      toks = toks;
+      spellings = behind.1 ∙ again.spellings_are;
+    }
+
+pub same_tokens : (source : List ℕ) (pieces : List Piece) (chunk : Chunk) (tokens : List ℕ) → IsSource source pieces chunk → IsJoined (spellings_of source pieces) tokens → SameTokens source (hash_text source pieces ++ tokens)
+same_tokens source pieces chunk tokens is joined = by_head (eqb (head_end source) (mark_length source)) refl
+  where
+    spelled : Spelled (toks_of pieces) (spellings_of source pieces)
+    spelled = spelled_in source pieces is.cut
+
+    brackets : BracketsStop (toks_of pieces)
+    brackets k bracket = bracket_no_equal (toks_of pieces) chunk is.tree k bracket
+
+    mark : begins (λ b. eqb 239 b) tokens ≡ false
+    mark = joined_apart (λ b. eqb 239 b) (toks_of pieces) joined spelled (λ t a at h. no_mark t a h)
+
+    hash : begins (λ b. eqb b 35) tokens ≡ false
+    hash = joined_apart (λ b. eqb b 35) (toks_of pieces) joined spelled (λ t a at h. no_hash t a h (λ e. chunk_no_hash (toks_of pieces) chunk is.tree (at ∙ ap Some e)))
+
+    line : begins is_line_byte tokens ≡ false
+    line = joined_apart is_line_byte (toks_of pieces) joined spelled (λ t a at h. no_line t a h)
+
+    by_head : (v : Bool) → eqb (head_end source) (mark_length source) ≡ v → SameTokens source (hash_text source pieces ++ tokens)
+    by_head true none =
+        let text : hash_text source pieces ++ tokens ≡ tokens = ap (λ h. h ++ tokens) (hash_text_none source pieces is.cut none) in
+        let end : head_end tokens ≡ 0 = end_of tokens 0 (no_mark_length tokens mark) (no_hash_length tokens hash) in
+        subst (λ t. SameTokens source t) (sym text) (whole source tokens pieces chunk is
+        (subst (λ i. TextCut tokens i (toks_of pieces) (spellings_of source pieces)) (sym end)
+        (text_cut tokens 0 (toks_of pieces) joined spelled brackets (omega arith) refl)))
+    by_head false some =
+        let front : List ℕ = slice_range source (mark_length source) (head_end source) in
+        let all : List ℕ = front ++ 10 ∷ tokens in
+        let text : hash_text source pieces ++ tokens ≡ all = ap (λ h. h ++ tokens) (hash_text_there source pieces is.cut some) ∙ append_assoc front (10 ∷ []) tokens in
+        let behind : drop (length front) all ≡ 10 ∷ tokens = drop-append_seam front (10 ∷ tokens) in
+        let end : head_end all ≡ length front = hash_end front tokens (hash_line_in source some) in
+        subst (λ t. SameTokens source t) (sym text) (whole source all pieces chunk is
+        (subst (λ i. TextCut all i (toks_of pieces) (spellings_of source pieces)) (sym end)
+        (with_other all (length front) LineEnd (10 ∷ []) tokens (toks_of pieces) (spellings_of source pieces) refl refl behind (feed_first tokens line)
+        (text_cut all (length front + 1) (toks_of pieces) joined spelled brackets (omega (arith, length-append front (10 ∷ tokens)))
+        (sym (drop-drop 1 (length front) all) ∙ ap (drop 1) behind)))))
