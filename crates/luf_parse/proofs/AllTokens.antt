@@ -18,10 +18,10 @@ use Rattle.luf_parse.proofs.Ends.{block_to}
 
 chunk_read : {toks : List Tok} (c : Chunk) → IsChunk toks c → depth_of c ≤ 200 → ReadBlock toks 200 0 c.block
 chunk_read {toks} c tree depth = record {
-    is = subst (λ p. IsBlock toks 0 p c.block) (sym (block_to tree)) tree;
-    ends = ap ends_block (ap (slice_get toks) (block_to tree) ∙ slice_get_past toks (length toks) (omega arith));
-    level = depth;
-  }
+  is = subst (λ p. IsBlock toks 0 p c.block) (sym (block_to tree)) tree;
+  ends = ap ends_block (ap (slice_get toks) (block_to tree) ∙ slice_get_past toks (length toks) (omega arith));
+  level = depth;
+}
 
 cause : {toks : List Tok} (e : ParseErr) → IsRefusal toks e → ((e ≡ error.Memory → ⊥) → HasNoTree toks) → IsCause toks e
 cause (error.Syntax t) within none = (within, none (λ z. cc))

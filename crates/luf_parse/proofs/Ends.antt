@@ -14,8 +14,8 @@ use Rattle.luf_tree.specs.Level.{expr_levels, args_levels, body_levels}
 use Rattle.luf_parse.specs.Follow.{continues_prefix, EndsOperand, EndsExpr}
 use Rattle.luf_parse.specs.Parts.{ReadExpr, ReadOperand, ReadSimple, ReadArgs, ReadFuncBody}
 use Rattle.luf_parse.specs.Shapes.{IsShaped}
-use Rattle.luf_parse.specs.declared.descent.Shape.{Shape}
-use Rattle.luf_parse.specs.declared.descent.Shape.TheVariants as shape
+use Rattle.luf_parse.specs.declared.prefixes.Shape.{Shape}
+use Rattle.luf_parse.specs.declared.prefixes.Shape.TheVariants as shape
 
 -- a token at the same place
 pub moved : {toks : List Tok} {a b l : ℕ} {tok : Tok} → a ≡ b → IsToken toks b tok l → IsToken toks a tok l

@@ -26,9 +26,9 @@ use Rattle.luf_parse.specs.Follow.{NotAt, NotAssigned, NotString, IsSeparator, c
 use Rattle.luf_parse.specs.Parts.{ReadExpr, ReadSteps, ReadChain, ReadOperand, ReadSimple, ReadUnary, ReadExponent, ReadPower, ReadFunction, ReadTable, ReadTableExpr, ReadFields, ReadField, ReadKeyed, ReadExprs, ReadPrefix, ReadHead, ReadParen, ReadSuffixes, ReadSuffix, ReadArgs, list_args, ReadListArgs, ReadLoneArg}
 use Rattle.luf_parse.specs.Reads.{begins_suffix, level_at}
 use Rattle.luf_parse.specs.Shapes.{IsShaped, suffixed_shape, lone_args, leaf_kind}
-use Rattle.luf_parse.specs.declared.descent.PrefixExpr.{PrefixExpr}
-use Rattle.luf_parse.specs.declared.descent.Shape.{Shape}
-use Rattle.luf_parse.specs.declared.descent.Shape.TheVariants.{Variable, Call, Paren}
+use Rattle.luf_parse.specs.declared.prefixes.PrefixExpr.{PrefixExpr}
+use Rattle.luf_parse.specs.declared.prefixes.Shape.{Shape}
+use Rattle.luf_parse.specs.declared.prefixes.Shape.TheVariants.{Variable, Call, Paren}
 use Rattle.luf_parse.proofs.Exactness.{ListRest}
 use Rattle.std.proofs.lemmas.Option.{same_Some}
 use Rattle.std.proofs.lemmas.Bool.{cases_lt}

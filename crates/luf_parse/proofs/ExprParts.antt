@@ -24,8 +24,8 @@ use Rattle.luf_tree.specs.Grammar.{expression, statement, IsToken, IsString, IsC
 use Rattle.luf_tree.proofs.LevelEquations as lv
 use Rattle.luf_parse.specs.Reads.{Found, level_at, level_of}
 use Rattle.luf_parse.specs.Shapes.{IsShaped, suffixed_shape, lone_args}
-use Rattle.luf_parse.specs.declared.descent.Shape.{Shape}
-use Rattle.luf_parse.specs.declared.descent.Shape.TheVariants as shape
+use Rattle.luf_parse.specs.declared.prefixes.Shape.{Shape}
+use Rattle.luf_parse.specs.declared.prefixes.Shape.TheVariants as shape
 
 pub unary_found : {toks : List Tok} {i j k left inner : ℕ} {tok : Tok} {e b : Expr}
     → IsToken toks i tok j

@@ -24,7 +24,7 @@ use Rattle.luf_parse.specs.Exact.{Alone, Then, Enters}
 use Rattle.luf_parse.specs.Follow.{NotAt, EndsExpr, ends_block, stops_stats, ends_arms, follows_stat, ends_return, begins_prefix, EndsBlock, EndsStat, EndsArms}
 use Rattle.luf_parse.specs.Parts.{Part, ReadExpr, ReadExprs, ReadFuncBody, ReadParams, ReadBlock, ReadStats, ReadSemicolon, ReadReturn, ReadShort, ReadStat, ReadLabel, ReadGoto, ReadDo, ReadWhile, ReadRepeat, ReadArms, ReadArm, ReadElse, ReadIf, ReadForStep, ReadCount, ReadFor, ReadFunctionStat, ReadLocalFunction, ReadLocal, ReadVariable, ReadMoreTargets, ReadExprStat, ReadPrefix}
 use Rattle.luf_parse.specs.Reads.{token_begins_suffix, begins_suffix}
-use Rattle.luf_parse.specs.declared.descent.Shape.TheVariants.{Variable, Call}
+use Rattle.luf_parse.specs.declared.prefixes.Shape.TheVariants.{Variable, Call}
 use Rattle.luf_tree.specs.First.{starts_stat}
 use Rattle.luf_tree.proofs.TokenLaws.{stat_starts}
 use Rattle.luf_parse.proofs.Exactness.{ListRest}
@@ -449,15 +449,15 @@ expr_stat_form {toks} {left} {i} begins s h = expr_stat_from (i + 1) (slice_get 
 pub short_form : {toks : List Tok} {left i : ℕ} → begins_prefix (slice_get toks i) ≡ false → NotAt toks i (Word word.Local) → NotAt toks i (Word word.If) → NotAt toks i (Word word.For) → NotAt toks i (Word word.Function)
     → NotAt toks i (Word word.While) → NotAt toks i (Word word.Do) → NotAt toks i (Word word.Repeat) → (s : Stat) → ReadStat toks left i s → ReadShort toks i s
 short_form {toks} {left} {i} prefix local_ if_ for_ function_ while_ do_ repeat_ s h = record {
-    break = λ to t. begins_word t s h;
-    empty = λ to t. begins_sign t s h;
-    goto = λ name t. begins_word t s h;
-    label = λ name t. begins_sign t s h;
-    other = λ b e g l. none (slice_get toks i) (stat_starts h.is) prefix local_ if_ for_ function_ while_ do_ repeat_ b e g l;
-  }
+  break = λ to t. begins_word t s h;
+  empty = λ to t. begins_sign t s h;
+  goto = λ name t. begins_word t s h;
+  label = λ name t. begins_sign t s h;
+  other = λ b e g l. none (slice_get toks i) (stat_starts h.is) prefix local_ if_ for_ function_ while_ do_ repeat_ b e g l;
+}
   where
     none : (o : Option Tok) → starts_stat o ≡ true → begins_prefix o ≡ false → (o ≡ Some (Word word.Local) → ⊥) → (o ≡ Some (Word word.If) → ⊥) → (o ≡ Some (Word word.For) → ⊥) → (o ≡ Some (Word word.Function) → ⊥)
-      → (o ≡ Some (Word word.While) → ⊥) → (o ≡ Some (Word word.Do) → ⊥) → (o ≡ Some (Word word.Repeat) → ⊥) → (o ≡ Some (Word word.Break) → ⊥) → (o ≡ Some (Sign sign.Semicolon) → ⊥) → (o ≡ Some (Word word.Goto) → ⊥) → (o ≡ Some (Sign sign.DoubleColon) → ⊥) → ⊥
+        → (o ≡ Some (Word word.While) → ⊥) → (o ≡ Some (Word word.Do) → ⊥) → (o ≡ Some (Word word.Repeat) → ⊥) → (o ≡ Some (Word word.Break) → ⊥) → (o ≡ Some (Sign sign.Semicolon) → ⊥) → (o ≡ Some (Word word.Goto) → ⊥) → (o ≡ Some (Sign sign.DoubleColon) → ⊥) → ⊥
     none None starts p h1 h2 h3 h4 h5 h6 h7 b e g l = cc
     none (Some Name) starts p h1 h2 h3 h4 h5 h6 h7 b e g l = cc
     none (Some (Word word.Local)) starts p h1 h2 h3 h4 h5 h6 h7 b e g l = h1 refl

@@ -16,8 +16,8 @@ use Rattle.luf_tree.specs.Grammar as g
 use Rattle.luf_tree.specs.Grammar.{expression, statement, IsToken, IsString, IsClosed, IsExpr, AreSteps, IsOperand, IsSimple, IsPrefix, IsVariable, IsCall, IsParen, IsHead, AreSuffixes, IsSuffix, IsArgs, AreExprs, IsTable, AreFields, IsField, IsFuncBody, IsBlock, AreStats, IsReturn, IsStat, AreTargets, IsArm, AreArms, IsElse, IsForStep, IsSemicolon, AreNames, AreParams, AreDeclared, IsPath, IsMethod}
 use Rattle.luf_tree.proofs.LevelEquations as lv
 use Rattle.luf_parse.specs.Reads.{Found}
-use Rattle.luf_parse.specs.declared.descent.Shape.{Shape}
-use Rattle.luf_parse.specs.declared.descent.Shape.TheVariants as shape
+use Rattle.luf_parse.specs.declared.prefixes.Shape.{Shape}
+use Rattle.luf_parse.specs.declared.prefixes.Shape.TheVariants as shape
 use Rattle.luf_parse.specs.Shapes.{IsShaped}
 
 pub break_found : {toks : List Tok} {i j left : ℕ}

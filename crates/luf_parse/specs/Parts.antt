@@ -25,9 +25,9 @@ use Rattle.luf_parse.specs.Exact.{Then, Enters}
 use Rattle.luf_parse.specs.Follow.{NotAt, IsAssigned, NotAssigned, continues_prefix, EndsOperand, EndsExpr, EndsExprs, EndsBlock, EndsStat, EndsArms, EndsField}
 use Rattle.luf_parse.specs.Reads.{begins_suffix}
 use Rattle.luf_parse.specs.Shapes.{IsShaped, lone_args}
-use Rattle.luf_parse.specs.declared.descent.PrefixExpr.{PrefixExpr}
-use Rattle.luf_parse.specs.declared.descent.Shape.{Shape}
-use Rattle.luf_parse.specs.declared.descent.Shape.TheVariants.{Variable, Call, Paren}
+use Rattle.luf_parse.specs.declared.prefixes.PrefixExpr.{PrefixExpr}
+use Rattle.luf_parse.specs.declared.prefixes.Shape.{Shape}
+use Rattle.luf_parse.specs.declared.prefixes.Shape.TheVariants.{Variable, Call, Paren}
 
 -- a part that is derived, behind which no part goes on, and which enters no more levels than are left
 pub record Part (Derived Ends : Type 0) (levels left : ℕ) : Type 0 where

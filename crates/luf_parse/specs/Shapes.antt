@@ -12,8 +12,8 @@ use Rattle.luf_tree.specs.Grammar.{expression, IsToken, IsSimple, IsVariable, Is
 use Rattle.luf_tree.specs.Level.{expr_levels}
 use Rattle.luf_tree.specs.declared.tree.ExprKind.{ExprKind}
 use Rattle.luf_tree.specs.declared.tree.ExprKind.TheVariants as expr
-use Rattle.luf_parse.specs.declared.descent.Shape.{Shape}
-use Rattle.luf_parse.specs.declared.descent.Shape.TheVariants.{Variable, Call, Paren}
+use Rattle.luf_parse.specs.declared.prefixes.Shape.{Shape}
+use Rattle.luf_parse.specs.declared.prefixes.Shape.TheVariants.{Variable, Call, Paren}
 
 -- the tokens from i to j are a prefix expression of this shape
 abbrev pub IsShaped : List Tok → ℕ → ℕ → Shape → Expr → Type 0

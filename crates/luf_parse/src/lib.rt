@@ -1,9 +1,17 @@
 //! The tree of a source from its tokens, by recursive descent with one token ahead.
+//!
+//! `left` is how many levels may still be entered. Recursion follows levels alone: all lists are loops.
 #![tactic(auto)]
 
-mod descent;
+mod assignments;
+mod blocks;
 mod error;
+mod expressions;
+mod loops;
 mod names;
+mod prefixes;
+mod statements;
+mod tables;
 #[cfg(test)]
 mod tests;
 mod tokens;

@@ -6,7 +6,7 @@ ghost use Rattle.luf_tree.specs.Level.{depth_of};
 ghost use Rattle.luf_parse.specs.Cause.{IsCause};
 
 use crate::ParseErr;
-use crate::descent::block;
+use crate::blocks::block;
 use crate::tokens::refusal;
 use luf_lex::Cut;
 use luf_tree::Chunk;

@@ -5,7 +5,7 @@ use Rattle.luf_lex.specs.declared.token.Word.TheVariants as word
 use Rattle.luf_lex.specs.declared.token.Sign.TheVariants as sign
 use Rattle.luf_tree.specs.Grammar.{IsToken, nil_simple, true_simple, false_simple, number_simple, string_simple, vararg_simple}
 use Rattle.luf_tree.proofs.LevelEquations.{nil_levels, true_levels, false_levels, number_levels, string_levels, vararg_levels}
-use Rattle.luf_parse.proofs.descent.leaf.Goals as goal
+use Rattle.luf_parse.proofs.expressions.leaf.Goals as goal
 
 pub returns-in-Word-Nil-clause-leaf : goal.returns-in-Word-Nil-clause-leaf
 returns-in-Word-Nil-clause-leaf c =

@@ -1,7 +1,7 @@
 use Rattle.std.proofs.Common.{arith}
 use Rattle.luf_tree.specs.Grammar.{goto_stat}
 use Rattle.luf_tree.proofs.LevelEquations.{goto_levels}
-use Rattle.luf_parse.proofs.descent.goto_stat.Goals as goal
+use Rattle.luf_parse.proofs.statements.goto_stat.Goals as goal
 
 pub returns-clause-ok : goal.returns-clause-ok
 returns-clause-ok c =

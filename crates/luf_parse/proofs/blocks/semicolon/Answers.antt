@@ -1,6 +1,6 @@
 use Rattle.std.proofs.Common.{arith}
 use Rattle.luf_tree.specs.Grammar.{no_semicolon, a_semicolon}
-use Rattle.luf_parse.proofs.descent.semicolon.Goals as goal
+use Rattle.luf_parse.proofs.blocks.semicolon.Goals as goal
 
 pub returns-in-Some-clause-found : goal.returns-in-Some-clause-found
 returns-in-Some-clause-found c =

@@ -1,7 +1,7 @@
 use Rattle.std.proofs.Common.{arith}
 use Rattle.luf_tree.specs.Grammar.{label_stat}
 use Rattle.luf_tree.proofs.LevelEquations.{label_levels}
-use Rattle.luf_parse.proofs.descent.label_stat.Goals as goal
+use Rattle.luf_parse.proofs.statements.label_stat.Goals as goal
 
 pub returns-clause-ok : goal.returns-clause-ok
 returns-clause-ok c =
