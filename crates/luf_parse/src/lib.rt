@@ -3,6 +3,7 @@
 
 mod descent;
 mod error;
+mod laws;
 mod names;
 #[cfg(test)]
 mod tests;
@@ -10,4 +11,5 @@ mod tokens;
 mod whole;
 
 pub use error::ParseErr;
+pub use laws::one_tree;
 pub use whole::parse;
