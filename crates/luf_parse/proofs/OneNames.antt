@@ -34,7 +34,7 @@ method_only {toks} {i} (g.a_method {j = j} {k = k} t n) ends r h = some r.0 r.1 
     some _ l (g.a_method u m) paren = ap (λ p. (Some p, l)) (same_end u t) ∙ ap (λ p. (Some j, p)) (second_end u m t n)
 
 attribute_only : {toks : List Tok} {i j : ℕ} {a : Option ℕ} → IsAttribute toks i j a → NotAt toks j (Sign sign.Less) → Alone (ReadAttribute toks i) (a, j)
-attribute_only {toks} {i} g.no_attribute ends r h = none r.0 r.1 h.is
+attribute_only {toks} {i} g.no_attribute ends = λ r h. none r.0 r.1 h.is
   where
     none : (a : Option ℕ) (k : ℕ) → IsAttribute toks i k a → ◌≡◌ {A = Option ℕ × ℕ} (a, k) (None, i)
     none _ _ g.no_attribute = refl
@@ -49,14 +49,14 @@ declared_only (g.more_declared t d u rest) ends =
 -- parameters that begin with a name, and end with one
 named_only : {toks : List Tok} {i j : ℕ} {names : List ℕ} → AreNames toks i j names → At toks j (Sign sign.RightParen) → Alone (ReadNamed toks i) (names, (false, j))
 named_only (g.one_name t) close = params_last t (λ comma. absurd cc)
-named_only (g.more_names {i = i} t u d) close r h =
-    let m = params_more t u (λ dots. let name = names_begin d in absurd cc) r h in m.2 ∙ ap (λ (s : List ℕ × (Bool × ℕ)). (i ∷ s.0, s.1)) (named_only d close m.0 m.1)
+named_only (g.more_names {i = i} t u d) close =
+    λ r h. let m = params_more t u (λ dots. let name = names_begin d in absurd cc) r h in m.2 ∙ ap (λ (s : List ℕ × (Bool × ℕ)). (i ∷ s.0, s.1)) (named_only d close m.0 m.1)
 
 -- parameters that begin with a name, and end with `...`
 dotted_only : {toks : List Tok} {i j k l : ℕ} {names : List ℕ} → AreNames toks i j names → IsToken toks j (Sign sign.Comma) k → IsToken toks k (Sign sign.Dots) l → Alone (ReadNamed toks i) (names, (true, l))
 dotted_only (g.one_name t) u v = params_dots t u v
-dotted_only (g.more_names {i = i} t w d) u v r h =
-    let m = params_more t w (λ dots. let name = names_begin d in absurd cc) r h in m.2 ∙ ap (λ (s : List ℕ × (Bool × ℕ)). (i ∷ s.0, s.1)) (dotted_only d u v m.0 m.1)
+dotted_only (g.more_names {i = i} t w d) u v =
+    λ r h. let m = params_more t w (λ dots. let name = names_begin d in absurd cc) r h in m.2 ∙ ap (λ (s : List ℕ × (Bool × ℕ)). (i ∷ s.0, s.1)) (dotted_only d u v m.0 m.1)
 
 params_read_only : {toks : List Tok} {i j : ℕ} {params : List ℕ} {vararg : Bool} → AreParams toks i j params vararg → At toks j (Sign sign.RightParen) → Alone (ParamsRead toks i) (params, (vararg, j))
 params_read_only {toks} {i} g.no_params close r h = none r.0 r.1.0 r.1.1 h.is

@@ -110,13 +110,9 @@ leads_only {toks} {left} {i} {j} {level} {e} d ends leads =
     at_end : level_at toks (out-Expr e).to < level
     at_end = subst (λ (p : ℕ). level_at toks p < level) (sym (expr_to d)) ends.level
 
-pub power_to : {i j l : ℕ} {base exponent : Expr} → (out-Expr base).to ≡ j → (out-Expr exponent).to ≡ l
+pub power_to : {i j l : ℕ} (base exponent : Expr) → (out-Expr base).to ≡ j → (out-Expr exponent).to ≡ l
     → expression i (out-Expr exponent).to (expr.Power base (out-Expr base).to exponent) ≡ expression i l (expr.Power base j exponent)
-power_to {i} {j} {l} {base} {exponent} base_to exponent_to = ap (λ p. expression i p (expr.Power base (out-Expr base).to exponent)) exponent_to ∙ ap (λ p. expression i l (expr.Power base p exponent)) base_to
-
--- no such token at the same place
-pub moved_not : {toks : List Tok} {i j : ℕ} {t : Tok} → i ≡ j → NotAt toks j t → NotAt toks i t
-moved_not {toks} {t = t} same other = subst (λ p. NotAt toks p t) (sym same) other
+power_to {i} {j} {l} base exponent base_to exponent_to = ap (λ p. expression i p (expr.Power base (out-Expr base).to exponent)) exponent_to ∙ ap (λ p. expression i l (expr.Power base p exponent)) base_to
 
 -- prefix expressions
 

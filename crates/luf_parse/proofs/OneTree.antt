@@ -40,7 +40,7 @@ use Rattle.luf_parse.proofs.ExprForms.{unary_form, power_form, function_form, ta
 use Rattle.luf_parse.proofs.Following.{not_at, token_closes, stat_ends_expr, stat_ends_exprs, arms_end_block, block_ends_stats, field_ends_expr, binary_ends_operand, closed_suffix}
 use Rattle.luf_parse.proofs.NameForms.{same_end}
 use Rattle.luf_parse.proofs.OneNames.{names_only, path_only, method_only, params_only, declared_only}
-use Rattle.luf_parse.proofs.OneParts.{simple_first, prefix_first, prefix_other, OnlyExpr, operand_leads, chain_leads, leads_only, power_to, moved_not, prefixed_only, OnlyHead, head_alone, paren_head_only, suffixed_only, paren_ends, string_no_paren, table_no_paren, table_no_string, brace_separates, separator_ends, return_begins, semicolon_only, values_begin, else_ends_arms, step_ends_expr, stat_ends_declared, stat_no_assign, assign_ends_declared, declared_no_function, targets_begin, call_begins, moved_step, in_no_comma, do_ends, item_assigned, ended_only, no_else_only, no_step_only, OnlyTargets, one_target_only, more_targets_only}
+use Rattle.luf_parse.proofs.OneParts.{simple_first, prefix_first, prefix_other, OnlyExpr, operand_leads, chain_leads, leads_only, power_to, prefixed_only, OnlyHead, head_alone, paren_head_only, suffixed_only, paren_ends, string_no_paren, table_no_paren, table_no_string, brace_separates, separator_ends, return_begins, semicolon_only, values_begin, else_ends_arms, step_ends_expr, stat_ends_declared, stat_no_assign, assign_ends_declared, declared_no_function, targets_begin, call_begins, moved_step, in_no_comma, do_ends, item_assigned, ended_only, no_else_only, no_step_only, OnlyTargets, one_target_only, more_targets_only}
 use Rattle.luf_parse.proofs.Only.{alone_enters, rest_more, rest_last}
 use Rattle.luf_parse.proofs.Reading.{stats_follow, stat_goes, values_go, semicolon_ends_return, semicolon_ends_exprs, stat_ends_prefix}
 use Rattle.luf_parse.proofs.StatForms.{begins_word, begins_sign, expr_stat_form, func_body_form, block_form, stats_form, last_form, stats_end, return_form, arms_form, arm_form, else_form, for_step_form, declared_begins, names_assigned, body_begins, method_no_dot}
@@ -71,10 +71,10 @@ mutual
   operand_only {toks} {i} (g.power_operand {j = j} {base = base} {exponent = exponent} d t x) ends left =
       let first = simple_first d in
       alone_form (power_form first.token first.other) (alone_next (simple_only d (ap continues_prefix t.there) left)
-      (λ y h. alone_enters (λ inner. alone_next (operand_only x ends inner) (alone_is (power_to (simple_to d) (operand_to x)))) y (h.power _ (moved (simple_to d) t))))
-  operand_only (g.simple_operand d) ends left =
+      (λ y h. alone_enters (λ inner. alone_next (operand_only x ends inner) (alone_is (power_to base exponent (simple_to d) (operand_to x)))) y (h.power _ (moved (simple_to d) t))))
+  operand_only {toks} (g.simple_operand d) ends left =
       let first = simple_first d in
-      alone_form (power_form first.token first.other) (alone_next (simple_only d ends.suffix left) (λ y h. h.none (moved_not (simple_to d) ends.power)))
+      alone_form (power_form first.token first.other) (alone_next (simple_only d ends.suffix left) (λ y h. h.none (subst (λ p. NotAt toks p (Sign sign.Caret)) (sym (simple_to d)) ends.power)))
 
   simple_only : {toks : List Tok} {i j : ℕ} {e : Expr} → IsSimple toks i j e → continues_prefix (slice_get toks j) ≡ false → (left : ℕ) → Alone (ReadSimple toks left i) e
   simple_only (g.nil_simple t) ends left = leaf_only t refl
