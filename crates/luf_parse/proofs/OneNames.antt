@@ -1,7 +1,7 @@
 -- From a place on there is at most one list of names of each kind.
-use Rattle.std.proofs.Common.{◌≡◌, ℕ, Bool, true, false, Option, Some, None, List, [], ◌∷◌, refl, ap, ◌∙◌}
+use Rattle.std.proofs.Common.{◌≡◌, ℕ, Bool, true, false, Option, Some, None, List, [], refl, ap, ◌∙◌}
 use Rattle.luf_lex.specs.declared.token.Tok.{Tok}
-use Rattle.luf_lex.specs.declared.token.Tok.TheVariants.{Name, Sign}
+use Rattle.luf_lex.specs.declared.token.Tok.TheVariants.{Sign}
 use Rattle.luf_lex.specs.declared.token.Sign.TheVariants as sign
 use Rattle.luf_tree.specs.declared.tree.Declared.{Declared}
 use Rattle.luf_tree.specs.Grammar as g
@@ -11,7 +11,7 @@ use Rattle.luf_parse.specs.Follow.{NotAt}
 use Rattle.luf_parse.specs.Parts.{ReadNames, ReadPath, ReadMethod, ReadParams, ReadAttribute, ReadDeclared, EndsDeclared}
 use Rattle.luf_parse.proofs.Exactness.{alone_form, alone_next, alone_is, alone_triple, token_only}
 use Rattle.luf_parse.proofs.NameForms.{same_end, second_end, attribute_form, names_form, path_form, declared_form, names_begin, ParamsRead, ReadNamed, params_named, params_more, params_last, params_dots}
-use Rattle.luf_parse.proofs.Only.{rest_more, rest_last}
+use Rattle.luf_parse.proofs.Only.{before, rest_more, rest_last}
 
 pub names_only : {toks : List Tok} {i j : ℕ} {names : List ℕ} → AreNames toks i j names → NotAt toks j (Sign sign.Comma) → Alone (ReadNames toks i) (names, j)
 names_only (g.one_name t) ends = alone_form names_form (alone_next (token_only t) (rest_last refl (λ next u. ends u.there)))
@@ -46,17 +46,18 @@ declared_only (g.one_declared t d) ends = alone_form declared_form (alone_next (
 declared_only (g.more_declared t d u rest) ends =
     alone_form declared_form (alone_next (alone_next (token_only t) (attribute_only d (λ less. let comma = u.there in absurd cc))) (rest_more _ u (declared_only rest ends)))
 
+name_no_dots : {toks : List Tok} {i j : ℕ} {names : List ℕ} → AreNames toks i j names → NotAt toks i (Sign sign.Dots)
+name_no_dots d dots = let name = names_begin d in absurd cc
+
 -- parameters that begin with a name, and end with one
 named_only : {toks : List Tok} {i j : ℕ} {names : List ℕ} → AreNames toks i j names → At toks j (Sign sign.RightParen) → Alone (ReadNamed toks i) (names, (false, j))
 named_only (g.one_name t) close = params_last t (λ comma. absurd cc)
-named_only (g.more_names {i = i} t u d) close =
-    λ r h. let m = params_more t u (λ dots. let name = names_begin d in absurd cc) r h in m.2 ∙ ap (λ (s : List ℕ × (Bool × ℕ)). (i ∷ s.0, s.1)) (named_only d close m.0 m.1)
+named_only (g.more_names t u d) close = λ r h. before (named_only d close) (params_more t u (name_no_dots d) r h)
 
 -- parameters that begin with a name, and end with `...`
 dotted_only : {toks : List Tok} {i j k l : ℕ} {names : List ℕ} → AreNames toks i j names → IsToken toks j (Sign sign.Comma) k → IsToken toks k (Sign sign.Dots) l → Alone (ReadNamed toks i) (names, (true, l))
 dotted_only (g.one_name t) u v = params_dots t u v
-dotted_only (g.more_names {i = i} t w d) u v =
-    λ r h. let m = params_more t w (λ dots. let name = names_begin d in absurd cc) r h in m.2 ∙ ap (λ (s : List ℕ × (Bool × ℕ)). (i ∷ s.0, s.1)) (dotted_only d u v m.0 m.1)
+dotted_only (g.more_names t w d) u v = λ r h. before (dotted_only d u v) (params_more t w (name_no_dots d) r h)
 
 params_read_only : {toks : List Tok} {i j : ℕ} {params : List ℕ} {vararg : Bool} → AreParams toks i j params vararg → At toks j (Sign sign.RightParen) → Alone (ParamsRead toks i) (params, (vararg, j))
 params_read_only {toks} {i} g.no_params close r h = none r.0 r.1.0 r.1.1 h.is

@@ -21,9 +21,9 @@ use Rattle.luf_tree.specs.First.{starts_expr}
 use Rattle.luf_tree.specs.Grammar as g
 use Rattle.luf_tree.specs.Grammar.{At, expression, IsToken, IsString, AreDeclared, IsExpr, IsSimple, IsPrefix, IsCall, IsParen, IsHead, AreExprs, IsTable, IsSemicolon, IsReturn, AreTargets, IsElse, IsForStep}
 use Rattle.luf_tree.proofs.TokenLaws.{expr_starts}
-use Rattle.luf_parse.specs.Exact.{Alone, Then}
+use Rattle.luf_parse.specs.Exact.{Alone}
 use Rattle.luf_parse.specs.Follow.{NotAt, NotAssigned, NotString, IsSeparator, EndsExpr, EndsExprs, sign_begins_prefix, begins_prefix, ends_block, ends_arms, ends_return, ends_field, follows_stat, EndsBlock, EndsStat, EndsArms, EndsField}
-use Rattle.luf_parse.specs.Parts.{EndsDeclared, ReadSteps, ReadChain, ReadExpr, ReadOperand, ReadSimple, ReadPrefix, ReadHead, ReadParen, ReadSuffixes, ReadBlock, ReadSemicolon, ReadEnded, ReadVariable, ReadMoreTargets, ReadElse, ReadForStep}
+use Rattle.luf_parse.specs.Parts.{EndsDeclared, ReadSteps, ReadChain, ReadExpr, ReadOperand, ReadSimple, ReadPrefix, ReadHead, ReadParen, ReadSuffixes, ReadBlock, ReadStats, ReadSemicolon, ReadEnded, ReadVariable, ReadMoreTargets, ReadElse, ReadForStep}
 use Rattle.luf_parse.specs.Reads.{level_at, begins_suffix}
 use Rattle.luf_parse.specs.Shapes.{suffixed_shape, sign_leaf, leaf_kind}
 use Rattle.luf_parse.specs.declared.descent.PrefixExpr.{PrefixExpr}
@@ -36,7 +36,7 @@ use Rattle.luf_parse.proofs.ExprForms.{prefixed_form, prefix_form, head_form, Su
 use Rattle.luf_parse.proofs.Following.{not_at, token_closes}
 use Rattle.luf_parse.proofs.Reading.{values_go}
 use Rattle.luf_parse.proofs.StatForms.{declared_begins, semicolon_some, semicolon_none, variable_prefix, targets_last, targets_form}
-use Rattle.luf_parse.proofs.Only.{alone_enters}
+use Rattle.luf_parse.proofs.Only.{before, alone_enters}
 
 -- the first token of a simple expression, which is no unary operator
 pub record SimpleFirst (toks : List Tok) (i : ℕ) : Type 0 where
@@ -180,6 +180,9 @@ pub return_begins : {toks : List Tok} {i j : ℕ} {s : Stat} → IsReturn toks i
 return_begins (g.return_nothing t _) = t.there
 return_begins (g.return_values t _ _) = t.there
 
+pub moved_stats : {toks : List Tok} {left i j k : ℕ} {stats : List Stat} → i ≡ j → Alone (ReadStats toks left j) (stats, k) → Alone (ReadStats toks left i) (stats, k)
+moved_stats {toks} {left} {k = k} {stats = stats} same only = subst (λ p. Alone (ReadStats toks left p) (stats, k)) (sym same) only
+
 pub semicolon_only : {toks : List Tok} {i j : ℕ} → IsSemicolon toks i j → EndsBlock toks j → Alone (ReadSemicolon toks i) j
 semicolon_only {toks} {i} g.no_semicolon ends = semicolon_none (not_at toks i ends_block ends refl)
 semicolon_only (g.a_semicolon t) ends = semicolon_some t
@@ -238,10 +241,10 @@ variable_alone only y h = ap (λ (p : PrefixExpr). p.expr) (only (record { shape
 
 pub more_targets_only : {toks : List Tok} {left i j k l : ℕ} {e : Expr} {targets : List Expr} → Alone (ReadPrefix toks left i) (record { shape = Variable; expr = e }) → (out-Expr e).to ≡ j → IsToken toks j (Sign sign.Comma) k
     → OnlyTargets toks left k l targets → OnlyTargets toks left i l (e ∷ targets)
-more_targets_only {toks} {left} {i} {l = l} {e = e} {targets = targets} first to t rest = record {
+more_targets_only {e = e} first to t rest = record {
     one = e;
     first = first;
-    only = λ r h. let f = then_rest (variable_alone rest.first) (targets_form (moved to t) r h) in f.2 ∙ ap (λ (s : List Expr × ℕ). (e ∷ s.0, s.1)) (rest.only f.0 f.1);
+    only = λ r h. before rest.only (then_rest (variable_alone rest.first) (targets_form (moved to t) r h));
   }
 
 -- what is declared ends where a statement does, and before a `=`

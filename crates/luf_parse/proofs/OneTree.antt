@@ -1,24 +1,24 @@
 -- A list of tokens has at most one tree. A part is derived up to a place, and what stands there does not go on with
 -- it: then from its first place on there is no other such part. By recursion on the derivation of the part; any other
 -- one has the form in which it is read (NameForms, ExprForms, StatForms), and so the same parts.
-use Rattle.std.proofs.Common.{◌≡◌, ℕ, ◌+◌, ◌<◌, ◌≤◌, inl, inr, Bool, true, false, Option, Some, None, List, [], ◌∷◌, refl, sym, ap, ◌∙◌, subst, arith}
+use Rattle.std.proofs.Common.{◌≡◌, ℕ, ◌<◌, inl, inr, Bool, true, false, Option, Some, List, [], ◌∷◌, refl, sym, ap, subst, arith}
 use Rattle.std.specs.Prelude.{slice_get}
 use Rattle.luf_lex.specs.declared.token.Tok.{Tok}
-use Rattle.luf_lex.specs.declared.token.Tok.TheVariants.{Name, Word, Sign}
+use Rattle.luf_lex.specs.declared.token.Tok.TheVariants.{Word, Sign}
 use Rattle.luf_lex.specs.declared.token.Word.TheVariants as word
 use Rattle.luf_lex.specs.declared.token.Sign.TheVariants as sign
 use Rattle.luf_tree.specs.declared.tree.Chunk.{Chunk}
-use Rattle.luf_tree.specs.declared.tree.Block.{Block, out-Block}
-use Rattle.luf_tree.specs.declared.tree.Stat.{Stat, out-Stat}
+use Rattle.luf_tree.specs.declared.tree.Block.{Block}
+use Rattle.luf_tree.specs.declared.tree.Stat.{Stat}
 use Rattle.luf_tree.specs.declared.tree.StatKind.TheVariants as stat
 use Rattle.luf_tree.specs.declared.tree.Arm.{Arm, roll-Arm}
-use Rattle.luf_tree.specs.declared.tree.FuncBody.{FuncBody, out-FuncBody}
-use Rattle.luf_tree.specs.declared.tree.Expr.{Expr, out-Expr}
+use Rattle.luf_tree.specs.declared.tree.FuncBody.{FuncBody}
+use Rattle.luf_tree.specs.declared.tree.Expr.{Expr}
 use Rattle.luf_tree.specs.declared.tree.ExprKind.TheVariants as expr
-use Rattle.luf_tree.specs.declared.tree.Step.{Step, roll-Step}
+use Rattle.luf_tree.specs.declared.tree.Step.{Step}
 use Rattle.luf_tree.specs.declared.tree.Suffix.{Suffix}
 use Rattle.luf_tree.specs.declared.tree.Suffix.TheVariants as suffix
-use Rattle.luf_tree.specs.declared.tree.Args.{Args, out-Args}
+use Rattle.luf_tree.specs.declared.tree.Args.{Args}
 use Rattle.luf_tree.specs.declared.tree.Field.{Field}
 use Rattle.luf_tree.specs.declared.tree.Field.TheVariants as field
 use Rattle.luf_tree.specs.First.{starts_expr}
@@ -27,23 +27,21 @@ use Rattle.luf_tree.specs.Grammar as g
 use Rattle.luf_tree.specs.Grammar.{At, expression, statement, IsToken, IsExpr, AreSteps, IsOperand, IsSimple, IsVariable, IsCall, IsParen, IsHead, AreSuffixes, IsSuffix, IsArgs, AreExprs, IsTable, AreFields, IsField, IsFuncBody, IsBlock, AreStats, IsReturn, IsStat, AreTargets, IsArm, AreArms, IsElse, IsForStep, IsChunk}
 use Rattle.luf_tree.proofs.TokenLaws.{expr_starts}
 use Rattle.luf_parse.specs.Exact.{Alone}
-use Rattle.luf_parse.specs.Follow.{NotAt, IsSeparator, continues_prefix, begins_prefix, EndsOperand, EndsExpr, EndsExprs, ends_block, ends_arms, ends_field, follows_stat, EndsBlock, EndsStat, EndsArms, EndsField}
-use Rattle.luf_parse.specs.Parts.{ReadExpr, ReadSteps, ReadOperand, ReadSimple, ReadTable, ReadFields, ReadField, ReadExprs, ReadPrefix, ReadHead, ReadParen, ReadSuffix, ReadArgs, ReadFuncBody, ReadBlock, ReadStats, ReadReturn, ReadStat, ReadArms, ReadArm, ReadElse, ReadForStep}
+use Rattle.luf_parse.specs.Follow.{NotAt, continues_prefix, EndsOperand, EndsExpr, EndsExprs, ends_block, ends_arms, ends_field, EndsBlock, EndsStat, EndsArms, EndsField}
+use Rattle.luf_parse.specs.Parts.{ReadSteps, ReadOperand, ReadSimple, ReadTable, ReadFields, ReadField, ReadExprs, ReadPrefix, ReadParen, ReadSuffix, ReadArgs, ReadFuncBody, ReadBlock, ReadStats, ReadReturn, ReadStat, ReadArms, ReadArm, ReadElse, ReadForStep}
 use Rattle.luf_parse.specs.Reads.{level_at, token_begins_suffix, begins_suffix}
-use Rattle.luf_parse.specs.declared.descent.Shape.{Shape}
 use Rattle.luf_parse.specs.declared.descent.Shape.TheVariants.{Variable, Call, Paren}
 use Rattle.luf_parse.proofs.AllTokens.{end_ends_block, chunk_read}
-use Rattle.luf_parse.proofs.Begins.{table_begins, paren_begins, suffixes_begin, steps_begin, exprs_start, begins_args, args_begin, field_begins, string_begins}
-use Rattle.luf_parse.proofs.Ends.{moved, variable_to, call_to, paren_to, head_to, prefix_to, simple_to, operand_to, expr_to, args_to, body_to, block_to, return_to, stat_to}
-use Rattle.luf_parse.proofs.Exactness.{alone_form, alone_next, alone_is, alone_triple, token_only}
-use Rattle.luf_parse.proofs.ExprForms.{unary_form, power_form, function_form, table_expr_form, leaf_only, prefixed_form, table_form, fields_form, fields_end, keyed_form, named_form, item_form, exprs_form, prefix_form, head_name, head_form, paren_form, SuffixesRead, suffixes_form, dot_form, index_form, method_form, call_form, args_list, args_lone, lone_string, lone_table, steps_form}
+use Rattle.luf_parse.proofs.Begins.{table_begins, suffixes_begin, steps_begin, exprs_start, begins_args, args_begin, field_begins}
+use Rattle.luf_parse.proofs.Ends.{moved, variable_to, call_to, simple_to, operand_to, expr_to, args_to, body_to, block_to, return_to, stat_to}
+use Rattle.luf_parse.proofs.Exactness.{alone_form, alone_next, alone_is, token_only}
+use Rattle.luf_parse.proofs.ExprForms.{unary_form, power_form, function_form, table_expr_form, leaf_only, table_form, fields_form, fields_end, keyed_form, named_form, item_form, exprs_form, head_name, paren_form, SuffixesRead, suffixes_form, dot_form, index_form, method_form, call_form, args_list, args_lone, lone_string, lone_table, steps_form}
 use Rattle.luf_parse.proofs.Following.{not_at, token_closes, stat_ends_expr, stat_ends_exprs, arms_end_block, block_ends_stats, field_ends_expr, binary_ends_operand, closed_suffix}
-use Rattle.luf_parse.proofs.NameForms.{same_end}
 use Rattle.luf_parse.proofs.OneNames.{names_only, path_only, method_only, params_only, declared_only}
-use Rattle.luf_parse.proofs.OneParts.{simple_first, prefix_first, prefix_other, OnlyExpr, operand_leads, chain_leads, leads_only, power_to, prefixed_only, OnlyHead, head_alone, paren_head_only, suffixed_only, paren_ends, string_no_paren, table_no_paren, table_no_string, brace_separates, separator_ends, return_begins, semicolon_only, values_begin, else_ends_arms, step_ends_expr, stat_ends_declared, stat_no_assign, assign_ends_declared, declared_no_function, targets_begin, call_begins, moved_step, in_no_comma, do_ends, item_assigned, ended_only, no_else_only, no_step_only, OnlyTargets, one_target_only, more_targets_only}
-use Rattle.luf_parse.proofs.Only.{alone_enters, rest_more, rest_last}
-use Rattle.luf_parse.proofs.Reading.{stats_follow, stat_goes, values_go, semicolon_ends_return, semicolon_ends_exprs, stat_ends_prefix}
-use Rattle.luf_parse.proofs.StatForms.{begins_word, begins_sign, expr_stat_form, func_body_form, block_form, stats_form, last_form, stats_end, return_form, arms_form, arm_form, else_form, for_step_form, declared_begins, names_assigned, body_begins, method_no_dot}
+use Rattle.luf_parse.proofs.OneParts.{simple_first, OnlyExpr, operand_leads, chain_leads, leads_only, power_to, prefixed_only, OnlyHead, head_alone, paren_head_only, suffixed_only, paren_ends, string_no_paren, table_no_paren, table_no_string, brace_separates, separator_ends, return_begins, semicolon_only, values_begin, else_ends_arms, step_ends_expr, stat_ends_declared, stat_no_assign, assign_ends_declared, declared_no_function, targets_begin, call_begins, moved_stats, moved_step, in_no_comma, do_ends, item_assigned, ended_only, no_else_only, no_step_only, OnlyTargets, one_target_only, more_targets_only}
+use Rattle.luf_parse.proofs.Only.{before, alone_enters, rest_more, rest_last}
+use Rattle.luf_parse.proofs.Reading.{stats_follow, stat_goes, semicolon_ends_return, semicolon_ends_exprs, stat_ends_prefix}
+use Rattle.luf_parse.proofs.StatForms.{begins_word, begins_sign, expr_stat_form, func_body_form, block_form, stats_form, last_form, stats_end, return_form, arms_form, arm_form, else_form, for_step_form, names_assigned, body_begins, method_no_dot}
 
 mutual
   expr_only : {toks : List Tok} {n i j : ℕ} {e : Expr} → IsExpr toks n i j e → EndsExpr toks n j → (left : ℕ) → OnlyExpr toks left i n e
@@ -157,9 +155,8 @@ mutual
   stats_only : {toks : List Tok} {i j : ℕ} {stats : List Stat} → AreStats toks i j stats → EndsBlock toks j → (left : ℕ) → Alone (ReadStats toks left i) (stats, j)
   stats_only {toks} {i} g.no_stats ends left = stats_end (block_ends_stats toks i ends) (not_at toks i ends_block ends refl)
   stats_only (g.last_stat {s = s} d) ends left = alone_form (last_form (return_begins d)) (alone_next (return_only d ends left) (alone_is (ap (λ p. (s ∷ [], p)) (return_to d))))
-  stats_only {toks} {j = j} (g.more_stats {s = s} {stats = stats} d rest) ends left =
-      alone_form (stats_form (stat_goes d)) (alone_next (stat_only d (stats_follow rest ends) left)
-      (λ r h. h.2 ∙ ap (λ (z : List Stat × ℕ). (s ∷ z.0, z.1)) (stats_only rest ends left h.0 (subst (λ p. ReadStats toks left p h.0) (stat_to d) h.1))))
+  stats_only (g.more_stats d rest) ends left =
+      alone_form (stats_form (stat_goes d)) (alone_next (stat_only d (stats_follow rest ends) left) (λ r h. before (moved_stats (stat_to d) (stats_only rest ends left)) h))
 
   return_only : {toks : List Tok} {i j : ℕ} {s : Stat} → IsReturn toks i j s → EndsBlock toks j → (left : ℕ) → Alone (ReadReturn toks left i) s
   return_only (g.return_nothing t d) ends left = alone_form return_form (alone_next (token_only t) (λ s h. alone_next (semicolon_only d ends) (alone_is refl) s (h.empty (semicolon_ends_return d ends))))
