@@ -22,10 +22,10 @@ end_ends_block toks = ap ends_block (slice_get_past toks (length toks) (omega ar
 -- a tree is a block of all tokens
 pub chunk_read : {toks : List Tok} {left : ℕ} (c : Chunk) → IsChunk toks c → depth_of c ≤ left → ReadBlock toks left 0 c.block
 chunk_read {toks} c tree depth = record {
-    is = subst (λ p. IsBlock toks 0 p c.block) (sym (block_to tree)) tree;
-    ends = subst (λ p. EndsBlock toks p) (sym (block_to tree)) (end_ends_block toks);
-    level = depth;
-  }
+  is = subst (λ p. IsBlock toks 0 p c.block) (sym (block_to tree)) tree;
+  ends = subst (λ p. EndsBlock toks p) (sym (block_to tree)) (end_ends_block toks);
+  level = depth;
+}
 
 cause : {toks : List Tok} (e : ParseErr) → IsRefusal toks e → ((e ≡ error.Memory → ⊥) → HasNoTree toks) → IsCause toks e
 cause (error.Syntax t) within none = (within, none (λ z. cc))

@@ -12,5 +12,6 @@ pub mod StatForms
 pub mod AllTokens
 pub mod ExprParts
 pub mod StatParts
-pub mod OneParts
+pub mod OneExprs
+pub mod OneStats
 pub mod OneTree
