@@ -1,6 +1,5 @@
 -- All tokens: what refutes their block refutes each tree.
-use Rattle.std.proofs.Common.{◌≡◌, ℕ, ◌≤◌, Option, None, List, length, sym, ap, ◌∙◌, subst, arith}
-use Rattle.std.specs.Prelude.{slice_get}
+use Rattle.std.proofs.Common.{◌≡◌, ℕ, ◌≤◌, List, length, sym, ap, ◌∙◌, subst, arith}
 use Rattle.std.proofs.lemmas.Option.{slice_get_past}
 use Rattle.luf_lex.specs.declared.token.Tok.{Tok}
 use Rattle.luf_tree.specs.declared.tree.Block.{Block, out-Block}
@@ -16,10 +15,15 @@ use Rattle.luf_parse.specs.declared.error.ParseErr.{ParseErr}
 use Rattle.luf_parse.specs.declared.error.ParseErr.TheVariants as error
 use Rattle.luf_parse.proofs.Ends.{block_to}
 
-chunk_read : {toks : List Tok} (c : Chunk) → IsChunk toks c → depth_of c ≤ 200 → ReadBlock toks 200 0 c.block
+-- a block ends behind the last token
+pub end_ends_block : (toks : List Tok) → EndsBlock toks (length toks)
+end_ends_block toks = ap ends_block (slice_get_past toks (length toks) (omega arith))
+
+-- a tree is a block of all tokens
+pub chunk_read : {toks : List Tok} {left : ℕ} (c : Chunk) → IsChunk toks c → depth_of c ≤ left → ReadBlock toks left 0 c.block
 chunk_read {toks} c tree depth = record {
   is = subst (λ p. IsBlock toks 0 p c.block) (sym (block_to tree)) tree;
-  ends = ap ends_block (ap (slice_get toks) (block_to tree) ∙ slice_get_past toks (length toks) (omega arith));
+  ends = subst (λ p. EndsBlock toks p) (sym (block_to tree)) (end_ends_block toks);
   level = depth;
 }
 

@@ -103,7 +103,7 @@ pub params_named : {toks : List Tok} {i : ℕ} → At toks i Name → (r : List 
 params_named {toks} {i} t r h = record { params = h; place = i + 1; name = record { there = t; next = refl } }
 
 -- names begin with a name
-names_begin : {toks : List Tok} {i j : ℕ} {names : List ℕ} → AreNames toks i j names → At toks i Name
+pub names_begin : {toks : List Tok} {i j : ℕ} {names : List ℕ} → AreNames toks i j names → At toks i Name
 names_begin (g.one_name t) = t.there
 names_begin (g.more_names t _ _) = t.there
 

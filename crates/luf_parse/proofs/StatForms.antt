@@ -314,7 +314,7 @@ call_form {toks} {left} {i} {j} {e} d closed ends level = let levels = lv.call_l
     begins (g.suffixed_call head _) = head_begins head
 
 -- names that are declared begin with a name
-declared_begins : {toks : List Tok} {i j : ℕ} {declared : List Declared} → AreDeclared toks i j declared → At toks i Name
+pub declared_begins : {toks : List Tok} {i j : ℕ} {declared : List Declared} → AreDeclared toks i j declared → At toks i Name
 declared_begins (g.one_declared t _) = t.there
 declared_begins (g.more_declared t _ _ _) = t.there
 
@@ -367,7 +367,7 @@ count_form {toks} {left} {i} {l} {m} {n} {o} {p} {q} {r} {s} {first} {limit} {st
     closes (g.a_for_step w _) = token_closes w.there refl refl refl
 
 -- no `=` stands behind the first of several names, of which `in` stands behind the last
-names_assigned : {toks : List Tok} {i j k after from : ℕ} {names : List ℕ} → AreNames toks i j names → IsToken toks j (Word word.In) k → IsToken toks i Name after → IsToken toks after (Sign sign.Assign) from → ⊥
+pub names_assigned : {toks : List Tok} {i j k after from : ℕ} {names : List ℕ} → AreNames toks i j names → IsToken toks j (Word word.In) k → IsToken toks i Name after → IsToken toks after (Sign sign.Assign) from → ⊥
 names_assigned (g.one_name t) u n assign = let here = u.there in let mark = assign.there in let e = same_end t n in absurd cc
 names_assigned (g.more_names t comma _) u n assign = let here = comma.there in let mark = assign.there in let e = same_end t n in absurd cc
 
@@ -379,11 +379,11 @@ for_in_form {toks} {left} {i} {j} {k} {l} {o} {p} {q} {r} {names} {es} {body} t 
       (reads (es, o) (record { is = values; ends = record { expr = token_closes v.there refl refl refl; comma = λ comma. let here = v.there in absurd cc }; level = omega arith }) (reads p v (reads (body, r) (ended_read b w (omega arith)) refl))));
 })
 
-body_begins : {toks : List Tok} {i j : ℕ} {f : FuncBody} → IsFuncBody toks i j f → At toks i (Sign sign.LeftParen)
+pub body_begins : {toks : List Tok} {i j : ℕ} {f : FuncBody} → IsFuncBody toks i j f → At toks i (Sign sign.LeftParen)
 body_begins (g.func_body t _ _ _ _) = t.there
 
 -- no `.` stands behind the path of a function's name
-method_no_dot : {toks : List Tok} {i j : ℕ} {method : Option ℕ} → IsMethod toks i j method → At toks j (Sign sign.LeftParen) → NotAt toks i (Sign sign.Dot)
+pub method_no_dot : {toks : List Tok} {i j : ℕ} {method : Option ℕ} → IsMethod toks i j method → At toks j (Sign sign.LeftParen) → NotAt toks i (Sign sign.Dot)
 method_no_dot g.no_method paren dot = absurd cc
 method_no_dot (g.a_method t _) paren dot = let colon = t.there in absurd cc
 

@@ -7,6 +7,7 @@ mod assignments;
 mod blocks;
 mod error;
 mod expressions;
+mod laws;
 mod loops;
 mod names;
 mod prefixes;
@@ -18,4 +19,5 @@ mod tokens;
 mod whole;
 
 pub use error::ParseErr;
+pub use laws::one_tree;
 pub use whole::parse;
