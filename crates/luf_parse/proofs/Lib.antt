@@ -15,3 +15,4 @@ pub mod StatParts
 pub mod OneExprs
 pub mod OneStats
 pub mod OneTree
+pub mod Answered
