@@ -24,34 +24,141 @@ use Rattle.luf_parse.proofs.+parse.Goals as goal
 abbrev list_made : ℕ → ℕ → List Expr → Args
 list_made i j es = roll-Args (record { from = i; to = j; parens = false; items = es })
 
-pub statements::arm-returns-clause-ok : goal.statements::arm-returns-clause-ok
-statements::arm-returns-clause-ok t c =
-    let h0 = c.in_ok-test.ensures in
-    let h1 = c.in_ok-inside.ensures in
-    let h2 = c.in_ok-inner.ensures in
-    let h3 = c.in_ok-body.ensures in
-    arm_found h0.ok h1.token h2.ok h3.ok
+pub expressions::expr-levels-init : goal.expressions::expr-levels-init
+expressions::expr-levels-init t c = record { grown = λ e h. then_rest c.in_ok-whole.ensures.only (operand_form e h); part = operand_found c.in_ok-whole.ensures.ok; least = operand_expr c.in_ok-whole.ensures.ok.derived }
 
-pub statements::arms-loop-found-preserved : goal.statements::arms-loop-found-preserved
-statements::arms-loop-found-preserved t c =
-    let h0 = c.in_ok-one.ensures in
-    let h1 = c.in-Some.ensures in
+pub expressions::expr-levels-preserved : goal.expressions::expr-levels-preserved
+expressions::expr-levels-preserved t c =
+    let h0 = c.in_ok-whole-2.ensures in
     record {
-      ahead = ahead_more _ c.loop-found.invariant.ahead c.in_ok-push.ensures.ok (list_more arms_form h0.only h1.token);
-      joins = joins_more (AreArms (toks_of c.args.cut.now)) _ _ _ _ _ _ c.loop-found.invariant.joins c.in_ok-push.ensures.ok (λ k rest h. more_arms h0.ok.derived h1.token h);
-      forward = omega arith;
-      level = level_more arm_levels _ _ _ _ c.loop-found.invariant.level c.in_ok-push.ensures.ok h0.ok.level;
+      grown = λ e h. then_rest h0.only (grown_form (sym c.level_at-level.ensures.value) (omega arith) e (c.levels.invariant.grown e h));
+      part = weaken_found (omega (arith, h0.ends)) h0.ok;
+      least = weaken c.args.least (omega arith) h0.ok.derived;
     }
 
-pub statements::arms-returns-in-None-clause-ok : goal.statements::arms-returns-in-None-clause-ok
-statements::arms-returns-in-None-clause-ok t c =
-    let h0 = c.in_ok-one.ensures in
+pub expressions::expr-returns-then-level-least-clause-ok : goal.expressions::expr-returns-then-level-least-clause-ok
+expressions::expr-returns-then-level-least-clause-ok t c =
+    record { derived = c.levels.invariant.least; forward = c.levels.invariant.part.forward; within = c.levels.invariant.part.within; level = c.levels.invariant.part.level }
+
+pub expressions::expr-returns-in_err-whole-clause-none : goal.expressions::expr-returns-in_err-whole-clause-none
+expressions::expr-returns-in_err-whole-clause-none t c = passes _ c.from_residual.ensures.1 (refutes_form operand_form (refutes_first c.in_err-whole.ensures.none))
+
+pub expressions::expr-returns-then-level-least-clause-only : goal.expressions::expr-returns-then-level-least-clause-only
+expressions::expr-returns-then-level-least-clause-only t c = alone_form c.levels.invariant.grown (grown_end (omega (arith, c.level_at-level.ensures.value)))
+
+pub expressions::expr-returns-in_err-whole-2-clause-none : goal.expressions::expr-returns-in_err-whole-2-clause-none
+expressions::expr-returns-in_err-whole-2-clause-none t c = passes _ c.from_residual-in_err-whole-2.ensures.1 (refutes_form c.levels.invariant.grown (refutes_form (grown_form (sym c.level_at-level.ensures.value) (omega arith)) (refutes_first c.in_err-whole-2.ensures.none)))
+
+pub expressions::chain-loop-next-preserved : goal.expressions::chain-loop-next-preserved
+expressions::chain-loop-next-preserved t c =
+    let h0 = c.in-Some.ensures in
+    let h1 = c.in_ok-right.ensures in
+    let n = h0.token.next in
+    let t : IsToken (toks_of c.args.cut.now) c.loop-next.sign c.in-Some.field-0-0 c.in-Some.next = record { there = cc h0.token.there; next = omega (arith, h0.token.next, c.in-Some.next-is) } in
     record {
-      derived = joins_last (AreArms (toks_of c.args.cut.now)) _ _ _ _ _ _ c.loop-found.invariant.joins c.in_ok-push.ensures.ok (one_arm h0.ok.derived);
+      ahead = ahead_more _ c.loop-next.invariant.ahead c.in_ok-push.ensures.ok (list_more (steps_form c.requires.low t) h1.only (omega (arith, c.level_at.ensures.value), refl));
+      joins = joins_more (AreSteps (toks_of c.args.cut.now) c.args.level) _ _ _ _ _ _ c.loop-next.invariant.joins c.in_ok-push.ensures.ok (λ k rest h. more_steps t (operator_at c.args.level t c.loop-next.invariant.next) h1.ok.derived h);
+      next = omega (arith, c.level_at.ensures.value);
       forward = omega arith;
-      within = omega arith;
-      level = level_more arm_levels _ _ _ _ c.loop-found.invariant.level c.in_ok-push.ensures.ok h0.ok.level;
+      level = level_more step_levels _ _ _ _ c.loop-next.invariant.level c.in_ok-push.ensures.ok (omega (arith, step_of_levels c.loop-next.sign c.in_ok-right.right, h1.ok.level));
     }
+
+pub expressions::chain-returns-then-level_at-level-clause-ok : goal.expressions::chain-returns-then-level_at-level-clause-ok
+expressions::chain-returns-then-level_at-level-clause-ok t c =
+    let h0 = c.in-Some.ensures in
+    let h1 = c.in_ok-right.ensures in
+    let n = h0.token.next in
+    let t : IsToken (toks_of c.args.cut.now) c.loop-next.sign c.in-Some.field-0-0 c.in-Some.next = record { there = cc h0.token.there; next = omega (arith, h0.token.next, c.in-Some.next-is) } in
+    chain_found c.requires.low c.requires.first (joins_last (AreSteps (toks_of c.args.cut.now) c.args.level) _ _ _ _ _ _ c.loop-next.invariant.joins c.in_ok-push.ensures.ok (one_step t (operator_at c.args.level t c.loop-next.invariant.next) h1.ok.derived))
+    (omega arith) h1.ok.within (level_more step_levels _ _ _ _ c.loop-next.invariant.level c.in_ok-push.ensures.ok (omega (arith, step_of_levels c.loop-next.sign c.in_ok-right.right, h1.ok.level))) c.in_ok-new.ensures
+
+pub expressions::chain-returns-in_err-right-clause-none : goal.expressions::chain-returns-in_err-right-clause-none
+expressions::chain-returns-in_err-right-clause-none t c = passes _ c.from_residual.ensures.1 (refutes_first (ahead_refutes _ c.loop-next.invariant.ahead (refutes_form (steps_form c.requires.low c.in-Some.ensures.token) (refutes_first c.in_err-right.ensures.none))))
+
+pub expressions::chain-returns-then-level_at-level-clause-only : goal.expressions::chain-returns-then-level_at-level-clause-only
+expressions::chain-returns-then-level_at-level-clause-only t c = alone_next (ahead_last _ c.loop-next.invariant.ahead c.in_ok-push.ensures.ok (list_last (steps_form c.requires.low c.in-Some.ensures.token) c.in_ok-right.ensures.only (λ next h. let a = h.0 in omega (arith, c.level_at.ensures.value)))) (alone_is (ap (λ (b : Expr). expression c.args.at (out-Expr c.in_ok-right.right).to (expr.Chain b c.push.new.self)) (sym c.in_ok-new.ensures)))
+
+pub expressions::operand-returns-then-is_unary-clause-ok : goal.expressions::operand-returns-then-is_unary-clause-ok
+expressions::operand-returns-then-is_unary-clause-ok t c =
+    let h0 = c.in-Some.ensures in
+    let h1 = c.in_ok-inner.ensures in
+    let h2 = c.in_ok-operand.ensures in
+    let t : IsToken (toks_of c.args.cut.now) c.args.at c.in-Some.tok c.in-Some.next = record { there = cc (h0.token.there, c.in-Some.tok-is); next = omega (arith, h0.token.next, c.in-Some.next-is) } in
+    unary_found t (cc (c.is_unary.ensures, c.if-is_unary.true)) h1.ok h2.ok c.in_ok-new.ensures
+
+pub expressions::operand-returns-in_default-clause-none : goal.expressions::operand-returns-in_default-clause-none
+expressions::operand-returns-in_default-clause-none t c = record { nothing = λ known. operand_inside c.in_default.ensures.end }
+
+pub expressions::operand-returns-in_err-inner-clause-none : goal.expressions::operand-returns-in_err-inner-clause-none
+expressions::operand-returns-in_err-inner-clause-none t c = passes _ c.from_residual.ensures.1 (refutes_form (unary_form c.in-Some.ensures.token (cc (c.is_unary.ensures, c.if-is_unary.true))) (refutes_first c.in_err-inner.ensures.none))
+
+pub expressions::operand-returns-in_err-operand-clause-none : goal.expressions::operand-returns-in_err-operand-clause-none
+expressions::operand-returns-in_err-operand-clause-none t c = passes _ c.from_residual-in_err-operand.ensures.1 (refutes_form (unary_form c.in-Some.ensures.token (cc (c.is_unary.ensures, c.if-is_unary.true))) (refutes_next c.in_ok-inner.ensures.only (refutes_first c.in_err-operand.ensures.none)))
+
+pub expressions::operand-returns-then-is_unary-clause-only : goal.expressions::operand-returns-then-is_unary-clause-only
+expressions::operand-returns-then-is_unary-clause-only t c = alone_form (unary_form c.in-Some.ensures.token (cc (c.is_unary.ensures, c.if-is_unary.true))) (alone_next c.in_ok-inner.ensures.only (alone_next c.in_ok-operand.ensures.only (alone_is (ap (λ (b : Expr). expression c.args.at (out-Expr c.in_ok-operand.operand).to (expr.Unary b)) (sym c.in_ok-new.ensures)))))
+
+pub expressions::operand-returns-clause-only : goal.expressions::operand-returns-clause-only
+expressions::operand-returns-clause-only t c = ok_form _ (power_form c.in-Some.ensures.token (cc (c.is_unary.ensures, c.if-is_unary.false))) c.power.ensures.only
+
+pub expressions::operand-returns-clause-none : goal.expressions::operand-returns-clause-none
+expressions::operand-returns-clause-none t c = err_form _ (power_form c.in-Some.ensures.token (cc (c.is_unary.ensures, c.if-is_unary.false))) c.power.ensures.none
+
+pub expressions::power-returns-clause-ok : goal.expressions::power-returns-clause-ok
+expressions::power-returns-clause-ok t c = power_found c.in_ok-base.ensures.ok c.in-Some.ensures.token c.in_ok-inner.ensures.ok c.in_ok-exponent.ensures.ok c.in_ok-new.ensures c.in_ok-new-2.ensures
+
+pub expressions::power-returns-in_default-clause-ok : goal.expressions::power-returns-in_default-clause-ok
+expressions::power-returns-in_default-clause-ok t c = simple_found c.in_ok-base.ensures.ok
+
+pub expressions::power-returns-in_err-inner-clause-none : goal.expressions::power-returns-in_err-inner-clause-none
+expressions::power-returns-in_err-inner-clause-none t c = passes _ c.from_residual-in_err-inner.ensures.1 (refutes_next c.in_ok-base.ensures.only (refutes_form (λ y h. h.power _ c.in-Some.ensures.token) (refutes_first c.in_err-inner.ensures.none)))
+
+pub expressions::power-returns-in_err-exponent-clause-none : goal.expressions::power-returns-in_err-exponent-clause-none
+expressions::power-returns-in_err-exponent-clause-none t c = passes _ c.from_residual-in_err-exponent.ensures.1 (refutes_next c.in_ok-base.ensures.only (refutes_form (λ y h. h.power _ c.in-Some.ensures.token) (refutes_next c.in_ok-inner.ensures.only (refutes_first c.in_err-exponent.ensures.none))))
+
+pub expressions::power-returns-clause-only : goal.expressions::power-returns-clause-only
+expressions::power-returns-clause-only t c = alone_next c.in_ok-base.ensures.only (alone_form (λ y h. h.power _ c.in-Some.ensures.token) (alone_next c.in_ok-inner.ensures.only (alone_next c.in_ok-exponent.ensures.only (alone_is (ap (λ (b : Expr). expression c.args.at (out-Expr c.in_ok-exponent.exponent).to (expr.Power b (out-Expr c.in_ok-base.base).to c.in_ok-exponent.exponent)) (sym c.in_ok-new.ensures) ∙ ap (λ (b : Expr). expression c.args.at (out-Expr c.in_ok-exponent.exponent).to (expr.Power c.in_ok-new.field-0 (out-Expr c.in_ok-base.base).to b)) (sym c.in_ok-new-2.ensures))))))
+
+pub expressions::simple-returns-clause-ok : goal.expressions::simple-returns-clause-ok
+expressions::simple-returns-clause-ok t c = prefix_found c.in_ok-found.found.shape c.in_ok-found.ensures.ok c.in_ok-found.ensures.closed
+
+pub expressions::simple-returns-in-Some-leaf-clause-ok : goal.expressions::simple-returns-in-Some-leaf-clause-ok
+expressions::simple-returns-in-Some-leaf-clause-ok t c =
+    let h0 = c.in-Some.ensures in
+    let h1 = c.in-Some-leaf.ensures.leaf in
+    let t : IsToken (toks_of c.args.cut.now) c.args.at c.in-Some.tok c.in-Some.to = record { there = cc (h0.token.there, c.in-Some.tok-is); next = omega (arith, h0.token.next, c.in-Some.to-is) } in
+    let leaf = h1 (toks_of c.args.cut.now) c.args.at c.in-Some.to t in
+    record { derived = leaf.0; forward = omega (arith, t.next); within = omega (arith, h0.within, c.in-Some.to-is); level = omega (arith, leaf.1) }
+
+pub expressions::simple-returns-in_default-clause-none : goal.expressions::simple-returns-in_default-clause-none
+expressions::simple-returns-in_default-clause-none t c = record { nothing = λ known. simple_inside c.in_default.ensures.end }
+
+pub expressions::simple-returns-in-Some-leaf-clause-only : goal.expressions::simple-returns-in-Some-leaf-clause-only
+expressions::simple-returns-in-Some-leaf-clause-only t c = leaf_only {tok = c.in-Some.tok} (record { there = cc (c.in-Some.ensures.token.there, c.in-Some.tok-is); next = omega (arith, c.in-Some.ensures.token.next, c.in-Some.to-is) }) (cc (c.leaf.ensures.kind, c.in-Some-leaf.is))
+
+pub expressions::simple-returns-in_err-found-clause-none : goal.expressions::simple-returns-in_err-found-clause-none
+expressions::simple-returns-in_err-found-clause-none t c = passes _ c.from_residual.ensures.1 (refutes_form (prefixed_form c.in-Some.ensures.token (cc (c.leaf.ensures.kind, c.in_default-leaf.is)) c.in_default-eat.ensures.other (not_at _ c.is_at.ensures c.if-is_at.false)) (refutes_first c.in_err-found.ensures.none))
+
+pub expressions::simple-returns-clause-only : goal.expressions::simple-returns-clause-only
+expressions::simple-returns-clause-only t c = alone_form (prefixed_form c.in-Some.ensures.token (cc (c.leaf.ensures.kind, c.in_default-leaf.is)) c.in_default-eat.ensures.other (not_at _ c.is_at.ensures c.if-is_at.false)) (alone_next c.in_ok-found.ensures.only (λ y h. h))
+
+pub expressions::simple-returns-in-Some-eat-clause-only : goal.expressions::simple-returns-in-Some-eat-clause-only
+expressions::simple-returns-in-Some-eat-clause-only t c = ok_form _ (function_form c.in-Some-eat.ensures.token) c.function.ensures.only
+
+pub expressions::simple-returns-in-Some-eat-clause-none : goal.expressions::simple-returns-in-Some-eat-clause-none
+expressions::simple-returns-in-Some-eat-clause-none t c = err_form _ (function_form c.in-Some-eat.ensures.token) c.function.ensures.none
+
+pub expressions::simple-returns-then-is_at-clause-only : goal.expressions::simple-returns-then-is_at-clause-only
+expressions::simple-returns-then-is_at-clause-only t c = ok_form _ (table_expr_form (is_at _ c.is_at.ensures c.if-is_at.true)) c.table_expr.ensures.only
+
+pub expressions::simple-returns-then-is_at-clause-none : goal.expressions::simple-returns-then-is_at-clause-none
+expressions::simple-returns-then-is_at-clause-none t c = err_form _ (table_expr_form (is_at _ c.is_at.ensures c.if-is_at.true)) c.table_expr.ensures.none
+
+pub expressions::function-returns-clause-ok : goal.expressions::function-returns-clause-ok
+expressions::function-returns-clause-ok t c = function_found c.requires.word c.in_ok-inner.ensures.ok c.in_ok-body.ensures.ok c.in_ok-new.ensures
+
+pub expressions::function-returns-in_err-inner-clause-none : goal.expressions::function-returns-in_err-inner-clause-none
+expressions::function-returns-in_err-inner-clause-none t c = passes _ c.from_residual.ensures.1 (refutes_first c.in_err-inner.ensures.none)
 
 pub expressions::exprs-loop-found-preserved : goal.expressions::exprs-loop-found-preserved
 expressions::exprs-loop-found-preserved t c =
@@ -73,6 +180,33 @@ expressions::exprs-returns-in-None-clause-ok t c =
       within = omega arith;
       level = level_more expr_levels _ _ _ _ c.loop-found.invariant.level c.in_ok-push.ensures.ok h0.ok.level;
     }
+
+pub expressions::exprs-returns-in_err-one-clause-none : goal.expressions::exprs-returns-in_err-one-clause-none
+expressions::exprs-returns-in_err-one-clause-none t c = passes _ c.from_residual.ensures.1 (ahead_refutes _ c.loop-found.invariant.ahead (refutes_form exprs_form (refutes_first c.in_err-one.ensures.none)))
+
+pub expressions::exprs-returns-in-None-clause-only : goal.expressions::exprs-returns-in-None-clause-only
+expressions::exprs-returns-in-None-clause-only t c = ahead_last _ c.loop-found.invariant.ahead c.in_ok-push.ensures.ok (list_last exprs_form c.in_ok-one.ensures.only (λ next u. c.in-None.ensures.other u.there))
+
+pub tables::table_expr-returns-clause-ok : goal.tables::table_expr-returns-clause-ok
+tables::table_expr-returns-clause-ok t c = table_expr_found c.in_ok-fields.ensures.ok
+
+pub tables::table-returns-clause-ok : goal.tables::table-returns-clause-ok
+tables::table-returns-clause-ok t c = table_found c.in_ok-first.ensures.token c.in_ok-inner.ensures.ok c.in_ok-found.ensures.ok c.in_ok-to.ensures.token c.in_ok-to.ensures.within
+
+pub tables::table-returns-in_err-first-clause-none : goal.tables::table-returns-in_err-first-clause-none
+tables::table-returns-in_err-first-clause-none t c = passes _ c.from_residual.ensures.1 (refutes_form table_form (refutes_first c.in_err-first.ensures.none))
+
+pub tables::table-returns-in_err-inner-clause-none : goal.tables::table-returns-in_err-inner-clause-none
+tables::table-returns-in_err-inner-clause-none t c = passes _ c.from_residual-in_err-inner.ensures.1 (refutes_form table_form (refutes_next c.in_ok-first.ensures.only (refutes_first c.in_err-inner.ensures.none)))
+
+pub tables::table-returns-in_err-found-clause-none : goal.tables::table-returns-in_err-found-clause-none
+tables::table-returns-in_err-found-clause-none t c = passes _ c.from_residual-in_err-found.ensures.1 (refutes_form table_form (refutes_next c.in_ok-first.ensures.only (refutes_next c.in_ok-inner.ensures.only (refutes_first c.in_err-found.ensures.none))))
+
+pub tables::table-returns-in_err-to-clause-none : goal.tables::table-returns-in_err-to-clause-none
+tables::table-returns-in_err-to-clause-none t c = passes _ c.from_residual-in_err-to.ensures.1 (refutes_form table_form (refutes_next c.in_ok-first.ensures.only (refutes_next c.in_ok-inner.ensures.only (refutes_next c.in_ok-found.ensures.only (refutes_first c.in_err-to.ensures.none)))))
+
+pub tables::table-returns-clause-only : goal.tables::table-returns-clause-only
+tables::table-returns-clause-only t c = alone_form table_form (alone_next c.in_ok-first.ensures.only (alone_next c.in_ok-inner.ensures.only (alone_next c.in_ok-found.ensures.only (alone_next c.in_ok-to.ensures.only ((λ y h. h))))))
 
 pub tables::fields-fields-preserved : goal.tables::fields-fields-preserved
 tables::fields-fields-preserved t c =
@@ -105,314 +239,92 @@ tables::fields-returns-then-is_at-clause-ok t c =
       level = c.fields.invariant.level;
     }
 
-pub assignments::assign-returns-clause-ok : goal.assignments::assign-returns-clause-ok
-assignments::assign-returns-clause-ok t c =
-    let h0 = c.in_ok-targets.ensures in
-    let h1 = c.in_ok-from.ensures in
-    let h2 = c.in_ok-values.ensures in
-    assign_found h0.ok h1.token h2.ok
+pub tables::fields-returns-then-is_at-clause-only : goal.tables::fields-returns-then-is_at-clause-only
+tables::fields-returns-then-is_at-clause-only t c = ahead_end c.fields.invariant.ahead (fields_end {i = c.fields.at} (is_at _ c.is_at.ensures c.if-is_at.true))
 
-pub blocks::block-loop-stats-preserved : goal.blocks::block-loop-stats-preserved
-blocks::block-loop-stats-preserved t c =
-    let h0 = c.in_ok-one.ensures in
-    record {
-      ahead = ahead_more _ c.loop-stats.invariant.ahead c.in_ok-push.ensures.ok (λ r q. then_rest h0.only (stats_form (sym c.ends_block.ensures ∙ c.loop-stats-test.true) r q));
-      joins = joins_more (AreStats (toks_of c.args.cut.now)) _ _ _ _ _ _ c.loop-stats.invariant.joins c.in_ok-push.ensures.ok (λ k rest h. more_stats h0.ok.derived h);
-      forward = omega arith;
-      within = omega arith;
-      level = level_more stat_levels _ _ _ _ c.loop-stats.invariant.level c.in_ok-push.ensures.ok h0.ok.level;
-    }
+pub tables::fields-returns-in_err-one-clause-none : goal.tables::fields-returns-in_err-one-clause-none
+tables::fields-returns-in_err-one-clause-none t c = passes _ c.from_residual.ensures.1 (ahead_refutes _ c.fields.invariant.ahead (refutes_form (fields_form (not_at _ c.is_at.ensures c.if-is_at.false)) (refutes_first c.in_err-one.ensures.none)))
 
-pub blocks::block-returns-then-is_at-clause-ok : goal.blocks::block-returns-then-is_at-clause-ok
-blocks::block-returns-then-is_at-clause-ok t c =
-    let h0 = c.in_ok-last.ensures in
-    made_block _ _ _ (block_found (joins_last (AreStats (toks_of c.args.cut.now)) _ _ _ _ _ _ c.loop-stats.invariant.joins c.in_ok-push-2.ensures.ok (last_stat h0.ok.derived)) (omega arith) h0.ok.within
-    (level_more stat_levels _ _ _ _ c.loop-stats.invariant.level c.in_ok-push-2.ensures.ok h0.ok.level))
-
-pub blocks::block-returns-clause-ok : goal.blocks::block-returns-clause-ok
-blocks::block-returns-clause-ok t c =
-    made_block _ _ _ (block_found (joins_end (AreStats (toks_of c.args.cut.now)) _ _ _ c.loop-stats.invariant.joins no_stats) c.loop-stats.invariant.forward c.loop-stats.invariant.within c.loop-stats.invariant.level)
-
-pub expressions::chain-loop-next-preserved : goal.expressions::chain-loop-next-preserved
-expressions::chain-loop-next-preserved t c =
-    let h0 = c.in-Some.ensures in
-    let h1 = c.in_ok-right.ensures in
-    let n = h0.token.next in
-    let t : IsToken (toks_of c.args.cut.now) c.loop-next.sign c.in-Some.field-0-0 c.in-Some.next = record { there = cc h0.token.there; next = omega (arith, h0.token.next, c.in-Some.next-is) } in
-    record {
-      ahead = ahead_more _ c.loop-next.invariant.ahead c.in_ok-push.ensures.ok (list_more (steps_form c.requires.low t) h1.only (omega (arith, c.level_at.ensures.value), refl));
-      joins = joins_more (AreSteps (toks_of c.args.cut.now) c.args.level) _ _ _ _ _ _ c.loop-next.invariant.joins c.in_ok-push.ensures.ok (λ k rest h. more_steps t (operator_at c.args.level t c.loop-next.invariant.next) h1.ok.derived h);
-      next = omega (arith, c.level_at.ensures.value);
-      forward = omega arith;
-      level = level_more step_levels _ _ _ _ c.loop-next.invariant.level c.in_ok-push.ensures.ok (omega (arith, step_of_levels c.loop-next.sign c.in_ok-right.right, h1.ok.level));
-    }
-
-pub expressions::chain-returns-then-level_at-level-clause-ok : goal.expressions::chain-returns-then-level_at-level-clause-ok
-expressions::chain-returns-then-level_at-level-clause-ok t c =
-    let h0 = c.in-Some.ensures in
-    let h1 = c.in_ok-right.ensures in
-    let n = h0.token.next in
-    let t : IsToken (toks_of c.args.cut.now) c.loop-next.sign c.in-Some.field-0-0 c.in-Some.next = record { there = cc h0.token.there; next = omega (arith, h0.token.next, c.in-Some.next-is) } in
-    chain_found c.requires.low c.requires.first (joins_last (AreSteps (toks_of c.args.cut.now) c.args.level) _ _ _ _ _ _ c.loop-next.invariant.joins c.in_ok-push.ensures.ok (one_step t (operator_at c.args.level t c.loop-next.invariant.next) h1.ok.derived))
-    (omega arith) h1.ok.within (level_more step_levels _ _ _ _ c.loop-next.invariant.level c.in_ok-push.ensures.ok (omega (arith, step_of_levels c.loop-next.sign c.in_ok-right.right, h1.ok.level))) c.in_ok-new.ensures
-
-pub loops::count_stat-returns-clause-ok : goal.loops::count_stat-returns-clause-ok
-loops::count_stat-returns-clause-ok t c =
-    let h0 = c.in_ok-first.ensures in
-    let h1 = c.in_ok-second.ensures in
-    let h2 = c.in_ok-limit.ensures in
-    let h3 = c.in_ok-step.ensures in
-    let h4 = c.in_ok-inside.ensures in
-    let h5 = c.in_ok-body.ensures in
-    for_found c.requires.word c.requires.name.name c.requires.name.sign h0.ok h1.token h2.ok h3.ok h4.token h5.ok
-
-pub statements::do_stat-returns-clause-ok : goal.statements::do_stat-returns-clause-ok
-statements::do_stat-returns-clause-ok t c =
-    let h0 = c.in_ok-body.ensures in
-    do_found c.requires.word h0.ok
-
-pub statements::else_block-returns-clause-ok : goal.statements::else_block-returns-clause-ok
-statements::else_block-returns-clause-ok t c =
-    let h0 = c.in-Some.ensures in
-    let h1 = c.in_ok-inner.ensures in
-    let h2 = c.in_ok-body.ensures in
-    else_found h0.token h1.ok h2.ok
-
-pub statements::else_block-returns-in_default-clause-ok : goal.statements::else_block-returns-in_default-clause-ok
-statements::else_block-returns-in_default-clause-ok t c =
-    let r = c.requires in record { derived = no_else; forward = omega arith; within = omega arith; level = omega arith }
-
-pub expressions::expr-levels-init : goal.expressions::expr-levels-init
-expressions::expr-levels-init t c =
-    let h0 = c.in_ok-whole.ensures in
-    record { grown = λ e h. then_rest h0.only (operand_form e h); part = operand_found h0.ok; least = operand_expr h0.ok.derived }
-
-pub expressions::expr-levels-preserved : goal.expressions::expr-levels-preserved
-expressions::expr-levels-preserved t c =
-    let h0 = c.in_ok-whole-2.ensures in
-    record {
-      grown = λ e h. then_rest h0.only (grown_form (sym c.level_at-level.ensures.value) (omega arith) e (c.levels.invariant.grown e h));
-      part = weaken_found (omega (arith, h0.ends)) h0.ok;
-      least = weaken c.args.least (omega arith) h0.ok.derived;
-    }
-
-pub expressions::expr-returns-then-level-least-clause-ok : goal.expressions::expr-returns-then-level-least-clause-ok
-expressions::expr-returns-then-level-least-clause-ok t c =
-    record { derived = c.levels.invariant.least; forward = c.levels.invariant.part.forward; within = c.levels.invariant.part.within; level = c.levels.invariant.part.level }
-
-pub assignments::expr_stat-returns-in-Call-clause-ok : goal.assignments::expr_stat-returns-in-Call-clause-ok
-assignments::expr_stat-returns-in-Call-clause-ok t c =
-    let h0 = c.in_ok-first.ensures in
-    call_shaped c.in_ok-first.first.shape c.in-Call.is h0.ok h0.closed
+pub tables::fields-returns-in-None-clause-only : goal.tables::fields-returns-in-None-clause-only
+tables::fields-returns-in-None-clause-only t c = ahead_last _ c.fields.invariant.ahead c.in_ok-push.ensures.ok (list_last (fields_form (not_at _ c.is_at.ensures c.if-is_at.false)) c.in_ok-one.ensures.only c.in-None.ensures.none)
 
 pub tables::field-returns-clause-ok : goal.tables::field-returns-clause-ok
-tables::field-returns-clause-ok t c =
-    let h0 = c.in_ok-value-2.ensures in
-    item_found h0.ok
+tables::field-returns-clause-ok t c = item_found c.in_ok-value-2.ensures.ok
 
 pub tables::field-returns-in-Some-assigned-clause-ok : goal.tables::field-returns-in-Some-assigned-clause-ok
-tables::field-returns-in-Some-assigned-clause-ok t c =
-    let h0 = c.in-Some-assigned.ensures in
-    let h2 = c.in_ok-value.ensures in
-    named_found h0.some.name h0.some.sign h2.ok
+tables::field-returns-in-Some-assigned-clause-ok t c = named_found c.in-Some-assigned.ensures.some.name c.in-Some-assigned.ensures.some.sign c.in_ok-value.ensures.ok
 
-pub loops::for_stat-returns-clause-ok : goal.loops::for_stat-returns-clause-ok
-loops::for_stat-returns-clause-ok t c =
-    let h0 = c.in_ok-names.ensures in
-    let h1 = c.in_ok-from.ensures in
-    let h2 = c.in_ok-values.ensures in
-    let h3 = c.in_ok-inside.ensures in
-    let h4 = c.in_ok-body.ensures in
-    for_in_found c.requires.word h0.ok h1.token h2.ok h3.token h4.ok
+pub tables::field-returns-in-Some-clause-only : goal.tables::field-returns-in-Some-clause-only
+tables::field-returns-in-Some-clause-only t c = ok_form _ (keyed_form c.in-Some.ensures.token) c.keyed.ensures.only
 
-pub loops::for_step-returns-clause-ok : goal.loops::for_step-returns-clause-ok
-loops::for_step-returns-clause-ok t c =
-    let h0 = c.in-Some.ensures in
-    let h1 = c.in_ok-step.ensures in
-    for_step_found h0.token h1.ok
+pub tables::field-returns-in-Some-clause-none : goal.tables::field-returns-in-Some-clause-none
+tables::field-returns-in-Some-clause-none t c = err_form _ (keyed_form c.in-Some.ensures.token) c.keyed.ensures.none
 
-pub loops::for_step-returns-in_default-clause-ok : goal.loops::for_step-returns-in_default-clause-ok
-loops::for_step-returns-in_default-clause-ok t c =
-    let r = c.requires in record { derived = no_for_step; forward = omega arith; within = omega arith; level = omega arith }
+pub tables::field-returns-in_err-value-clause-none : goal.tables::field-returns-in_err-value-clause-none
+tables::field-returns-in_err-value-clause-none t c = passes _ c.from_residual.ensures.1 (refutes_form (named_form c.in-Some-assigned.ensures.some.name c.in-Some-assigned.ensures.some.sign) (refutes_first c.in_err-value.ensures.none))
 
-pub blocks::func_body-returns-clause-ok : goal.blocks::func_body-returns-clause-ok
-blocks::func_body-returns-clause-ok t c =
-    let h0 = c.in_ok-first.ensures in
-    let h1 = c.in_ok-params.ensures in
-    let h2 = c.in_ok-inside.ensures in
-    let h3 = c.in_ok-body.ensures in
-    let h4 = c.in_ok-to.ensures in
-    made_body _ _ _ _ _ (func_body_found h0.token h1.ok h2.token h3.ok h4.token h4.within)
+pub tables::field-returns-in-Some-assigned-clause-only : goal.tables::field-returns-in-Some-assigned-clause-only
+tables::field-returns-in-Some-assigned-clause-only t c = alone_form (named_form c.in-Some-assigned.ensures.some.name c.in-Some-assigned.ensures.some.sign) (alone_next c.in_ok-value.ensures.only ((λ y h. h)))
 
-pub expressions::function-returns-clause-ok : goal.expressions::function-returns-clause-ok
-expressions::function-returns-clause-ok t c =
-    let h0 = c.in_ok-inner.ensures in
-    let h1 = c.in_ok-body.ensures in
-    function_found c.requires.word h0.ok h1.ok c.in_ok-new.ensures
+pub tables::field-returns-in_err-value-2-clause-none : goal.tables::field-returns-in_err-value-2-clause-none
+tables::field-returns-in_err-value-2-clause-none t c = passes _ c.from_residual-in_err-value-2.ensures.1 (refutes_form (item_form c.in_default.ensures.other c.in_default-assigned.ensures.none) (refutes_first c.in_err-value-2.ensures.none))
 
-pub statements::function_stat-returns-clause-ok : goal.statements::function_stat-returns-clause-ok
-statements::function_stat-returns-clause-ok t c =
-    let h0 = c.in_ok-inner.ensures in
-    let h1 = c.in_ok-path.ensures in
-    let h2 = c.in_ok-method.ensures in
-    let h3 = c.in_ok-body.ensures in
-    function_stat_found c.requires.word h0.ok h1.ok h2.ok h3.ok
-
-pub prefixes::head-returns-clause-head : goal.prefixes::head-returns-clause-head
-prefixes::head-returns-clause-head t c =
-    let h0 = c.in_ok-expr.ensures in
-    paren_head h0.ok.derived
-
-pub prefixes::head-returns-in-Some-clause-head : goal.prefixes::head-returns-in-Some-clause-head
-prefixes::head-returns-in-Some-clause-head t c =
-    let h0 = c.in-Some.ensures in
-    name_head h0.token
-
-pub prefixes::head-returns-in-Some-clause-ok : goal.prefixes::head-returns-in-Some-clause-ok
-prefixes::head-returns-in-Some-clause-ok t c =
-    let h0 = c.in-Some.ensures in
-    name_found h0.token h0.within
-
-pub statements::if_stat-returns-clause-ok : goal.statements::if_stat-returns-clause-ok
-statements::if_stat-returns-clause-ok t c =
-    let h0 = c.in_ok-arms.ensures in
-    let h1 = c.in_ok-last.ensures in
-    let h2 = c.in_ok-to.ensures in
-    if_found c.requires.word h0.ok h1.ok h2.token h2.within
+pub tables::field-returns-clause-only : goal.tables::field-returns-clause-only
+tables::field-returns-clause-only t c = alone_form (item_form c.in_default.ensures.other c.in_default-assigned.ensures.none) (alone_next c.in_ok-value-2.ensures.only ((λ y h. h)))
 
 pub tables::keyed-returns-clause-ok : goal.tables::keyed-returns-clause-ok
-tables::keyed-returns-clause-ok t c =
-    let h0 = c.in_ok-inner.ensures in
-    let h1 = c.in_ok-key.ensures in
-    let h2 = c.in_ok-close.ensures in
-    let h3 = c.in_ok-from.ensures in
-    let h4 = c.in_ok-value.ensures in
-    keyed_found c.requires.sign h0.ok h1.ok h2.token h3.token h4.ok
+tables::keyed-returns-clause-ok t c = keyed_found c.requires.sign c.in_ok-inner.ensures.ok c.in_ok-key.ensures.ok c.in_ok-close.ensures.token c.in_ok-from.ensures.token c.in_ok-value.ensures.ok
 
-pub blocks::last-returns-clause-ok : goal.blocks::last-returns-clause-ok
-blocks::last-returns-clause-ok t c =
-    let h0 = c.in_ok-next.ensures in
-    let h1 = c.in_ok-values.ensures in
-    return_values_found h0.token h1.ok c.semicolon-2.ensures.found
-
-pub blocks::last-returns-then-ends_return-clause-ok : goal.blocks::last-returns-then-ends_return-clause-ok
-blocks::last-returns-then-ends_return-clause-ok t c =
-    let h0 = c.in_ok-next.ensures in
-    return_nothing_found h0.token c.semicolon.ensures.found c.new.ensures
-
-pub prefixes::list_args-returns-clause-ok : goal.prefixes::list_args-returns-clause-ok
-prefixes::list_args-returns-clause-ok t c =
-    let h0 = c.in_ok-inner.ensures in
-    let h1 = c.in_ok-items.ensures in
-    let h2 = c.in_ok-to.ensures in
-    made_args _ _ _ _ (list_args_found c.requires.sign h0.ok h1.ok h2.token h2.within)
-
-pub prefixes::list_args-returns-in-Some-clause-ok : goal.prefixes::list_args-returns-in-Some-clause-ok
-prefixes::list_args-returns-in-Some-clause-ok t c =
-    let h0 = c.in_ok-inner.ensures in
-    let h1 = c.in-Some.ensures in
-    made_args _ _ _ _ (no_args_found _ c.requires.sign h0.ok h1.token h1.within c.new.ensures)
-
-pub statements::local_stat-returns-clause-ok : goal.statements::local_stat-returns-clause-ok
-statements::local_stat-returns-clause-ok t c =
-    let h0 = c.in_ok-names.ensures in
-    let h1 = c.in-Some-eat.ensures in
-    let h2 = c.in_ok-values.ensures in
-    local_values_found c.requires.word h0.ok h1.token h2.ok
-
-pub statements::local_stat-returns-in-Some-clause-ok : goal.statements::local_stat-returns-in-Some-clause-ok
-statements::local_stat-returns-in-Some-clause-ok t c =
-    let h0 = c.in-Some.ensures in
-    let h1 = c.in_ok-inside.ensures in
-    let h2 = c.in_ok-inner.ensures in
-    let h3 = c.in_ok-body.ensures in
-    local_function_found c.requires.word h0.token h1.token h2.ok h3.ok
-
-pub statements::local_stat-returns-in_default-eat-clause-ok : goal.statements::local_stat-returns-in_default-eat-clause-ok
-statements::local_stat-returns-in_default-eat-clause-ok t c =
-    let h0 = c.in_ok-names.ensures in
-    local_found c.requires.word h0.ok c.new.ensures
-
-pub prefixes::lone_arg-returns-in-Some-clause-ok : goal.prefixes::lone_arg-returns-in-Some-clause-ok
-prefixes::lone_arg-returns-in-Some-clause-ok t c =
-    let h0 = c.in-Some.ensures in
-    let h1 = c.in_ok-enter.ensures in
-    string_arg_found _ h0.some h0.forward h1.ok h0.within
-
-pub prefixes::lone_arg-returns-clause-ok : goal.prefixes::lone_arg-returns-clause-ok
-prefixes::lone_arg-returns-clause-ok t c =
-    let h0 = c.in_ok-inner.ensures in
-    let h1 = c.in_ok-fields.ensures in
-    table_arg_found h0.ok h1.ok
-
-pub expressions::operand-returns-then-is_unary-clause-ok : goal.expressions::operand-returns-then-is_unary-clause-ok
-expressions::operand-returns-then-is_unary-clause-ok t c =
-    let h0 = c.in-Some.ensures in
-    let h1 = c.in_ok-inner.ensures in
-    let h2 = c.in_ok-operand.ensures in
-    let t : IsToken (toks_of c.args.cut.now) c.args.at c.in-Some.tok c.in-Some.next = record { there = cc (h0.token.there, c.in-Some.tok-is); next = omega (arith, h0.token.next, c.in-Some.next-is) } in
-    unary_found t (cc (c.is_unary.ensures, c.if-is_unary.true)) h1.ok h2.ok c.in_ok-new.ensures
-
-pub prefixes::paren-returns-clause-ok : goal.prefixes::paren-returns-clause-ok
-prefixes::paren-returns-clause-ok t c =
-    let h0 = c.in_ok-next.ensures in
-    let h1 = c.in_ok-inner.ensures in
-    let h2 = c.in_ok-inside.ensures in
-    let h3 = c.in_ok-to.ensures in
-    paren_found h0.token h1.ok h2.ok h3.token h3.within c.in_ok-new.ensures
-
-pub expressions::power-returns-clause-ok : goal.expressions::power-returns-clause-ok
-expressions::power-returns-clause-ok t c =
-    let h0 = c.in_ok-base.ensures in
-    let h1 = c.in-Some.ensures in
-    let h2 = c.in_ok-inner.ensures in
-    let h3 = c.in_ok-exponent.ensures in
-    power_found h0.ok h1.token h2.ok h3.ok c.in_ok-new.ensures c.in_ok-new-2.ensures
-
-pub expressions::power-returns-in_default-clause-ok : goal.expressions::power-returns-in_default-clause-ok
-expressions::power-returns-in_default-clause-ok t c =
-    let h0 = c.in_ok-base.ensures in
-    simple_found h0.ok
+pub tables::keyed-returns-in_err-inner-clause-none : goal.tables::keyed-returns-in_err-inner-clause-none
+tables::keyed-returns-in_err-inner-clause-none t c = passes _ c.from_residual.ensures.1 (refutes_first c.in_err-inner.ensures.none)
 
 pub prefixes::prefix-returns-clause-ok : goal.prefixes::prefix-returns-clause-ok
-prefixes::prefix-returns-clause-ok t c =
-    let h0 = c.in_ok-head.ensures in
-    let h1 = c.in_ok-found.ensures in
-    suffixed_found c.in_ok-found.calls c.suffixed.result c.suffixed.ensures h0.ok h0.head h1.ok c.in_ok-new.ensures
+prefixes::prefix-returns-clause-ok t c = suffixed_found c.in_ok-found.calls c.suffixed.result c.suffixed.ensures c.in_ok-head.ensures.ok c.in_ok-head.ensures.head c.in_ok-found.ensures.ok c.in_ok-new.ensures
 
-pub statements::repeat_stat-returns-clause-ok : goal.statements::repeat_stat-returns-clause-ok
-statements::repeat_stat-returns-clause-ok t c =
-    let h0 = c.in_ok-inner.ensures in
-    let h1 = c.in_ok-body.ensures in
-    let h2 = c.in_ok-from.ensures in
-    let h3 = c.in_ok-test.ensures in
-    repeat_found c.requires.word h0.ok h1.ok h2.token h3.ok
+pub prefixes::prefix-returns-in_err-head-clause-none : goal.prefixes::prefix-returns-in_err-head-clause-none
+prefixes::prefix-returns-in_err-head-clause-none t c = passes _ c.from_residual.ensures.1 (refutes_form prefix_form (refutes_first c.in_err-head.ensures.none))
 
-pub prefixes::suffix-returns-clause-ok : goal.prefixes::suffix-returns-clause-ok
-prefixes::suffix-returns-clause-ok t c =
-    let h0 = c.in_ok-given-2.ensures in
-    call_found h0.ok
+pub prefixes::prefix-returns-then-not-begins_suffix-clause-only : goal.prefixes::prefix-returns-then-not-begins_suffix-clause-only
+prefixes::prefix-returns-then-not-begins_suffix-clause-only t c = alone_form prefix_form (alone_next c.in_ok-head.ensures.only (λ y h. h.alone (cc (c.begins_suffix.ensures, c.if-not-begins_suffix.true))))
 
-pub prefixes::suffix-returns-in-Some-clause-ok : goal.prefixes::suffix-returns-in-Some-clause-ok
-prefixes::suffix-returns-in-Some-clause-ok t c =
-    let h0 = c.in-Some.ensures in
-    let h1 = c.in_ok-to.ensures in
-    dot_found h0.token h1.token h1.within
+pub prefixes::prefix-returns-in_err-found-clause-none : goal.prefixes::prefix-returns-in_err-found-clause-none
+prefixes::prefix-returns-in_err-found-clause-none t c = passes _ c.from_residual-in_err-found.ensures.1 (refutes_form prefix_form (refutes_next c.in_ok-head.ensures.only (refutes_form (λ y h. h.more (cc (c.begins_suffix.ensures, c.if-not-begins_suffix.false))) (refutes_first c.in_err-found.ensures.none))))
 
-pub prefixes::suffix-returns-in-Some-eat-2-clause-ok : goal.prefixes::suffix-returns-in-Some-eat-2-clause-ok
-prefixes::suffix-returns-in-Some-eat-2-clause-ok t c =
-    let h0 = c.in-Some-eat-2.ensures in
-    let h1 = c.in_ok-after.ensures in
-    let h2 = c.in_ok-given.ensures in
-    method_found h0.token h1.token h2.ok
+pub prefixes::prefix-returns-clause-only : goal.prefixes::prefix-returns-clause-only
+prefixes::prefix-returns-clause-only t c = alone_form prefix_form (alone_next c.in_ok-head.ensures.only (alone_form (λ y h. h.more (cc (c.begins_suffix.ensures, c.if-not-begins_suffix.false))) (alone_next c.in_ok-found.ensures.only (alone_is (made_prefix _ _ c.suffixed.ensures c.in_ok-new.ensures)))))
 
-pub prefixes::suffix-returns-in-Some-eat-clause-ok : goal.prefixes::suffix-returns-in-Some-eat-clause-ok
-prefixes::suffix-returns-in-Some-eat-clause-ok t c =
-    let h0 = c.in-Some-eat.ensures in
-    let h1 = c.in_ok-inner.ensures in
-    let h2 = c.in_ok-key.ensures in
-    let h3 = c.in_ok-to-2.ensures in
-    index_found h0.token h1.ok h2.ok h3.token h3.within
+pub prefixes::head-returns-clause-head : goal.prefixes::head-returns-clause-head
+prefixes::head-returns-clause-head t c = paren_head c.in_ok-expr.ensures.ok.derived
+
+pub prefixes::head-returns-in-Some-clause-head : goal.prefixes::head-returns-in-Some-clause-head
+prefixes::head-returns-in-Some-clause-head t c = name_head c.in-Some.ensures.token
+
+pub prefixes::head-returns-in-Some-clause-ok : goal.prefixes::head-returns-in-Some-clause-ok
+prefixes::head-returns-in-Some-clause-ok t c = name_found c.in-Some.ensures.token c.in-Some.ensures.within
+
+pub prefixes::head-returns-in-Some-clause-only : goal.prefixes::head-returns-in-Some-clause-only
+prefixes::head-returns-in-Some-clause-only t c = head_name c.in-Some.ensures.token
+
+pub prefixes::head-returns-clause-only : goal.prefixes::head-returns-clause-only
+prefixes::head-returns-clause-only t c = alone_form (head_form c.in_default.ensures.other) (alone_next c.in_ok-expr.ensures.only (λ y h. h))
+
+pub prefixes::paren-returns-clause-ok : goal.prefixes::paren-returns-clause-ok
+prefixes::paren-returns-clause-ok t c = paren_found c.in_ok-next.ensures.token c.in_ok-inner.ensures.ok c.in_ok-inside.ensures.ok c.in_ok-to.ensures.token c.in_ok-to.ensures.within c.in_ok-new.ensures
+
+pub prefixes::paren-returns-in_err-next-clause-none : goal.prefixes::paren-returns-in_err-next-clause-none
+prefixes::paren-returns-in_err-next-clause-none t c = passes _ c.from_residual.ensures.1 (refutes_form paren_form (refutes_first c.in_err-next.ensures.none))
+
+pub prefixes::paren-returns-in_err-inner-clause-none : goal.prefixes::paren-returns-in_err-inner-clause-none
+prefixes::paren-returns-in_err-inner-clause-none t c = passes _ c.from_residual-in_err-inner.ensures.1 (refutes_form paren_form (refutes_next c.in_ok-next.ensures.only (refutes_first c.in_err-inner.ensures.none)))
+
+pub prefixes::paren-returns-in_err-inside-clause-none : goal.prefixes::paren-returns-in_err-inside-clause-none
+prefixes::paren-returns-in_err-inside-clause-none t c = passes _ c.from_residual-in_err-inside.ensures.1 (refutes_form paren_form (refutes_next c.in_ok-next.ensures.only (refutes_next c.in_ok-inner.ensures.only (refutes_first c.in_err-inside.ensures.none))))
+
+pub prefixes::paren-returns-in_err-to-clause-none : goal.prefixes::paren-returns-in_err-to-clause-none
+prefixes::paren-returns-in_err-to-clause-none t c = passes _ c.from_residual-in_err-to.ensures.1 (refutes_form paren_form (refutes_next c.in_ok-next.ensures.only (refutes_next c.in_ok-inner.ensures.only (refutes_next c.in_ok-inside.ensures.only (refutes_first c.in_err-to.ensures.none)))))
+
+pub prefixes::paren-returns-clause-only : goal.prefixes::paren-returns-clause-only
+prefixes::paren-returns-clause-only t c = alone_form paren_form (alone_next c.in_ok-next.ensures.only (alone_next c.in_ok-inner.ensures.only (alone_next c.in_ok-inside.ensures.only (alone_next c.in_ok-to.ensures.only (alone_is (ap (λ (b : Expr). expression c.args.at c.in_ok-to.to (expr.Paren b)) (sym c.in_ok-new.ensures)))))))
 
 pub prefixes::suffixes-loop-found-preserved : goal.prefixes::suffixes-loop-found-preserved
 prefixes::suffixes-loop-found-preserved t c =
@@ -434,308 +346,23 @@ prefixes::suffixes-returns-then-not-begins_suffix-clause-ok t c =
       level = level_more suffix_levels _ _ _ _ c.loop-found.invariant.level c.in_ok-push.ensures.ok h0.ok.level;
     }
 
-pub tables::table-returns-clause-ok : goal.tables::table-returns-clause-ok
-tables::table-returns-clause-ok t c =
-    let h0 = c.in_ok-first.ensures in
-    let h1 = c.in_ok-inner.ensures in
-    let h2 = c.in_ok-found.ensures in
-    let h3 = c.in_ok-to.ensures in
-    table_found h0.token h1.ok h2.ok h3.token h3.within
+pub prefixes::suffixes-returns-in_err-one-clause-none : goal.prefixes::suffixes-returns-in_err-one-clause-none
+prefixes::suffixes-returns-in_err-one-clause-none t c = passes _ c.from_residual.ensures.1 (refutes_triple _ (ahead_refutes _ c.loop-found.invariant.ahead (refutes_form suffixes_form (refutes_first c.in_err-one.ensures.none))))
 
-pub tables::table_expr-returns-clause-ok : goal.tables::table_expr-returns-clause-ok
-tables::table_expr-returns-clause-ok t c =
-    let h0 = c.in_ok-fields.ensures in
-    table_expr_found h0.ok
+pub prefixes::suffixes-returns-then-not-begins_suffix-clause-only : goal.prefixes::suffixes-returns-then-not-begins_suffix-clause-only
+prefixes::suffixes-returns-then-not-begins_suffix-clause-only t c = alone_triple _ (ahead_last _ c.loop-found.invariant.ahead c.in_ok-push.ensures.ok (list_last suffixes_form c.in_ok-one.ensures.only (λ next h. let b = h.0 in absurd (cc (b, c.begins_suffix.ensures, c.if-not-begins_suffix.true)))))
 
-pub assignments::targets-loop-found-preserved : goal.assignments::targets-loop-found-preserved
-assignments::targets-loop-found-preserved t c =
-    let h0 = c.in-Some.ensures in
-    let h1 = c.in_ok-one.ensures in
-    record {
-      ahead = ahead_more _ c.loop-found.invariant.ahead c.in_ok-push.ensures.ok (λ r q. then_rest h1.only (targets_form h0.token r q));
-      joins = joins_more (AreTargets (toks_of c.args.cut.now)) _ _ _ _ _ _ c.loop-found.invariant.joins c.in_ok-push.ensures.ok (λ k rest h. more_targets c.loop-found.invariant.one.derived h0.token h);
-      one = h1.ok;
-      forward = omega arith;
-      level = level_more expr_levels _ _ _ _ c.loop-found.invariant.level c.in_ok-push.ensures.ok c.loop-found.invariant.one.level;
-    }
+pub prefixes::suffix-returns-clause-ok : goal.prefixes::suffix-returns-clause-ok
+prefixes::suffix-returns-clause-ok t c = call_found c.in_ok-given-2.ensures.ok
 
-pub assignments::targets-returns-in_default-clause-ok : goal.assignments::targets-returns-in_default-clause-ok
-assignments::targets-returns-in_default-clause-ok t c =
-    record {
-      derived = joins_last (AreTargets (toks_of c.args.cut.now)) _ _ _ _ _ _ c.loop-found.invariant.joins c.in_ok-push.ensures.ok (one_target c.loop-found.invariant.one.derived);
-      forward = omega arith;
-      within = omega arith;
-      level = level_more expr_levels _ _ _ _ c.loop-found.invariant.level c.in_ok-push.ensures.ok c.loop-found.invariant.one.level;
-    }
+pub prefixes::suffix-returns-in-Some-clause-ok : goal.prefixes::suffix-returns-in-Some-clause-ok
+prefixes::suffix-returns-in-Some-clause-ok t c = dot_found c.in-Some.ensures.token c.in_ok-to.ensures.token c.in_ok-to.ensures.within
 
-pub statements::while_stat-returns-clause-ok : goal.statements::while_stat-returns-clause-ok
-statements::while_stat-returns-clause-ok t c =
-    let h0 = c.in_ok-test.ensures in
-    let h1 = c.in_ok-inside.ensures in
-    let h2 = c.in_ok-body.ensures in
-    while_found c.requires.word h0.ok h1.token h2.ok
+pub prefixes::suffix-returns-in-Some-eat-2-clause-ok : goal.prefixes::suffix-returns-in-Some-eat-2-clause-ok
+prefixes::suffix-returns-in-Some-eat-2-clause-ok t c = method_found c.in-Some-eat-2.ensures.token c.in_ok-after.ensures.token c.in_ok-given.ensures.ok
 
-pub expressions::simple-returns-clause-ok : goal.expressions::simple-returns-clause-ok
-expressions::simple-returns-clause-ok t c =
-    let h0 = c.in_ok-found.ensures in
-    prefix_found c.in_ok-found.found.shape h0.ok h0.closed
-
-pub expressions::simple-returns-in-Some-leaf-clause-ok : goal.expressions::simple-returns-in-Some-leaf-clause-ok
-expressions::simple-returns-in-Some-leaf-clause-ok t c =
-    let h0 = c.in-Some.ensures in
-    let h1 = c.in-Some-leaf.ensures.leaf in
-    let t : IsToken (toks_of c.args.cut.now) c.args.at c.in-Some.tok c.in-Some.to = record { there = cc (h0.token.there, c.in-Some.tok-is); next = omega (arith, h0.token.next, c.in-Some.to-is) } in
-    let leaf = h1 (toks_of c.args.cut.now) c.args.at c.in-Some.to t in
-    record { derived = leaf.0; forward = omega (arith, t.next); within = omega (arith, h0.within, c.in-Some.to-is); level = omega (arith, leaf.1) }
-
-pub prefixes::args-returns-in-Some-clause-only : goal.prefixes::args-returns-in-Some-clause-only
-prefixes::args-returns-in-Some-clause-only t c = ok_form _ (args_list c.in-Some.ensures.token) c.list_args.ensures.only
-
-pub prefixes::args-returns-in-Some-clause-none : goal.prefixes::args-returns-in-Some-clause-none
-prefixes::args-returns-in-Some-clause-none t c = err_form _ (args_list c.in-Some.ensures.token) c.list_args.ensures.none
-
-pub prefixes::args-returns-clause-only : goal.prefixes::args-returns-clause-only
-prefixes::args-returns-clause-only t c = alone_form (args_lone c.in_default.ensures.other) (alone_next c.in_ok-item.ensures.only (alone_is (ap (λ es. list_made c.args.at (out-Expr c.in_ok-item.item).to es) (sym (c.in_ok-push.ensures.ok ∙ ap (λ xs. xs ++ c.in_ok-item.item ∷ []) c.new-items.ensures)))))
-
-pub statements::arm-returns-in_err-test-clause-none : goal.statements::arm-returns-in_err-test-clause-none
-statements::arm-returns-in_err-test-clause-none t c = passes _ c.from_residual.ensures.1 (refutes_form arm_form (refutes_first c.in_err-test.ensures.none))
-
-pub statements::arm-returns-in_err-inside-clause-none : goal.statements::arm-returns-in_err-inside-clause-none
-statements::arm-returns-in_err-inside-clause-none t c = passes _ c.from_residual-in_err-inside.ensures.1 (refutes_form arm_form (refutes_next c.in_ok-test.ensures.only (refutes_first c.in_err-inside.ensures.none)))
-
-pub statements::arm-returns-in_err-inner-clause-none : goal.statements::arm-returns-in_err-inner-clause-none
-statements::arm-returns-in_err-inner-clause-none t c = passes _ c.from_residual-in_err-inner.ensures.1 (refutes_form arm_form (refutes_next c.in_ok-test.ensures.only (refutes_next c.in_ok-inside.ensures.only (refutes_first c.in_err-inner.ensures.none))))
-
-pub statements::arm-returns-in_err-body-clause-none : goal.statements::arm-returns-in_err-body-clause-none
-statements::arm-returns-in_err-body-clause-none t c = passes _ c.from_residual-in_err-body.ensures.1 (refutes_form arm_form (refutes_next c.in_ok-test.ensures.only (refutes_next c.in_ok-inside.ensures.only (refutes_next c.in_ok-inner.ensures.only (refutes_first c.in_err-body.ensures.none)))))
-
-pub statements::arm-returns-clause-only : goal.statements::arm-returns-clause-only
-statements::arm-returns-clause-only t c = alone_form arm_form (alone_next c.in_ok-test.ensures.only (alone_next c.in_ok-inside.ensures.only (alone_next c.in_ok-inner.ensures.only (alone_next c.in_ok-body.ensures.only ((λ y h. h))))))
-
-pub statements::arms-returns-in_err-one-clause-none : goal.statements::arms-returns-in_err-one-clause-none
-statements::arms-returns-in_err-one-clause-none t c = passes _ c.from_residual.ensures.1 (ahead_refutes _ c.loop-found.invariant.ahead (refutes_form arms_form (refutes_first c.in_err-one.ensures.none)))
-
-pub statements::arms-returns-in-None-clause-only : goal.statements::arms-returns-in-None-clause-only
-statements::arms-returns-in-None-clause-only t c = ahead_last _ c.loop-found.invariant.ahead c.in_ok-push.ensures.ok (list_last arms_form c.in_ok-one.ensures.only (λ next u. c.in-None.ensures.other u.there))
-
-pub expressions::exprs-returns-in_err-one-clause-none : goal.expressions::exprs-returns-in_err-one-clause-none
-expressions::exprs-returns-in_err-one-clause-none t c = passes _ c.from_residual.ensures.1 (ahead_refutes _ c.loop-found.invariant.ahead (refutes_form exprs_form (refutes_first c.in_err-one.ensures.none)))
-
-pub expressions::exprs-returns-in-None-clause-only : goal.expressions::exprs-returns-in-None-clause-only
-expressions::exprs-returns-in-None-clause-only t c = ahead_last _ c.loop-found.invariant.ahead c.in_ok-push.ensures.ok (list_last exprs_form c.in_ok-one.ensures.only (λ next u. c.in-None.ensures.other u.there))
-
-pub assignments::assign-returns-in_err-targets-clause-none : goal.assignments::assign-returns-in_err-targets-clause-none
-assignments::assign-returns-in_err-targets-clause-none t c = passes _ c.from_residual.ensures.1 (refutes_first c.in_err-targets.ensures.none)
-
-pub assignments::assign-returns-in_err-from-clause-none : goal.assignments::assign-returns-in_err-from-clause-none
-assignments::assign-returns-in_err-from-clause-none t c = passes _ c.from_residual-in_err-from.ensures.1 (refutes_next c.in_ok-targets.ensures.only (refutes_first c.in_err-from.ensures.none))
-
-pub assignments::assign-returns-in_err-values-clause-none : goal.assignments::assign-returns-in_err-values-clause-none
-assignments::assign-returns-in_err-values-clause-none t c = passes _ c.from_residual-in_err-values.ensures.1 (refutes_next c.in_ok-targets.ensures.only (refutes_next c.in_ok-from.ensures.only (refutes_first c.in_err-values.ensures.none)))
-
-pub assignments::assign-returns-clause-only : goal.assignments::assign-returns-clause-only
-assignments::assign-returns-clause-only t c = alone_next c.in_ok-targets.ensures.only (alone_next c.in_ok-from.ensures.only (alone_next c.in_ok-values.ensures.only ((λ y h. h))))
-
-pub blocks::block-returns-in_err-one-clause-none : goal.blocks::block-returns-in_err-one-clause-none
-blocks::block-returns-in_err-one-clause-none t c = passes _ c.from_residual.ensures.1 (refutes_form block_form (refutes_first (ahead_refutes _ c.loop-stats.invariant.ahead (refutes_form (stats_form (sym c.ends_block.ensures ∙ c.loop-stats-test.true)) (refutes_first c.in_err-one.ensures.none)))))
-
-pub blocks::block-returns-in_err-last-clause-none : goal.blocks::block-returns-in_err-last-clause-none
-blocks::block-returns-in_err-last-clause-none t c = passes _ c.from_residual-in_err-last.ensures.1 (refutes_form block_form (refutes_first (ahead_refutes _ c.loop-stats.invariant.ahead (refutes_form (last_form (is_at _ c.is_at.ensures c.if-is_at.true)) (refutes_first c.in_err-last.ensures.none)))))
-
-pub blocks::block-returns-then-is_at-clause-only : goal.blocks::block-returns-then-is_at-clause-only
-blocks::block-returns-then-is_at-clause-only t c = alone_form block_form (alone_next (ahead_last _ c.loop-stats.invariant.ahead c.in_ok-push-2.ensures.ok (λ r q. let f = last_form (is_at _ c.is_at.ensures c.if-is_at.true) r q in then_rest c.in_ok-last.ensures.only f)) (λ y h. h))
-
-pub blocks::block-returns-clause-only : goal.blocks::block-returns-clause-only
-blocks::block-returns-clause-only t c = alone_form block_form (alone_next (ahead_end c.loop-stats.invariant.ahead (stats_end {i = c.loop-stats.to} (sym c.ends_block.ensures ∙ c.loop-stats-test.false) (not_at _ c.is_at.ensures c.if-is_at.false))) (λ y h. h))
-
-pub expressions::chain-returns-in_err-right-clause-none : goal.expressions::chain-returns-in_err-right-clause-none
-expressions::chain-returns-in_err-right-clause-none t c = passes _ c.from_residual.ensures.1 (refutes_first (ahead_refutes _ c.loop-next.invariant.ahead (refutes_form (steps_form c.requires.low c.in-Some.ensures.token) (refutes_first c.in_err-right.ensures.none))))
-
-pub expressions::chain-returns-then-level_at-level-clause-only : goal.expressions::chain-returns-then-level_at-level-clause-only
-expressions::chain-returns-then-level_at-level-clause-only t c = alone_next (ahead_last _ c.loop-next.invariant.ahead c.in_ok-push.ensures.ok (list_last (steps_form c.requires.low c.in-Some.ensures.token) c.in_ok-right.ensures.only (λ next h. let a = h.0 in omega (arith, c.level_at.ensures.value)))) (alone_is (ap (λ (b : Expr). expression c.args.at (out-Expr c.in_ok-right.right).to (expr.Chain b c.push.new.self)) (sym c.in_ok-new.ensures)))
-
-pub statements::do_stat-returns-in_err-body-clause-none : goal.statements::do_stat-returns-in_err-body-clause-none
-statements::do_stat-returns-in_err-body-clause-none t c = passes _ c.from_residual.ensures.1 (refutes_first c.in_err-body.ensures.none)
-
-pub statements::do_stat-returns-clause-only : goal.statements::do_stat-returns-clause-only
-statements::do_stat-returns-clause-only t c = alone_next c.in_ok-body.ensures.only ((λ y h. h))
-
-pub statements::else_block-returns-in_err-inner-clause-none : goal.statements::else_block-returns-in_err-inner-clause-none
-statements::else_block-returns-in_err-inner-clause-none t c = passes _ c.from_residual.ensures.1 (refutes_form (else_form c.in-Some.ensures.token) (refutes_first c.in_err-inner.ensures.none))
-
-pub statements::else_block-returns-in_err-body-clause-none : goal.statements::else_block-returns-in_err-body-clause-none
-statements::else_block-returns-in_err-body-clause-none t c = passes _ c.from_residual-in_err-body.ensures.1 (refutes_form (else_form c.in-Some.ensures.token) (refutes_next c.in_ok-inner.ensures.only (refutes_first c.in_err-body.ensures.none)))
-
-pub statements::else_block-returns-clause-only : goal.statements::else_block-returns-clause-only
-statements::else_block-returns-clause-only t c = alone_form (else_form c.in-Some.ensures.token) (alone_next c.in_ok-inner.ensures.only (alone_next c.in_ok-body.ensures.only ((λ y h. h))))
-
-pub blocks::ended_block-returns-in_err-inner-clause-none : goal.blocks::ended_block-returns-in_err-inner-clause-none
-blocks::ended_block-returns-in_err-inner-clause-none t c = passes _ c.from_residual.ensures.1 (refutes_first c.in_err-inner.ensures.none)
-
-pub expressions::expr-returns-in_err-whole-clause-none : goal.expressions::expr-returns-in_err-whole-clause-none
-expressions::expr-returns-in_err-whole-clause-none t c = passes _ c.from_residual.ensures.1 (refutes_form operand_form (refutes_first c.in_err-whole.ensures.none))
-
-pub expressions::expr-returns-then-level-least-clause-only : goal.expressions::expr-returns-then-level-least-clause-only
-expressions::expr-returns-then-level-least-clause-only t c = alone_form c.levels.invariant.grown (grown_end (omega (arith, c.level_at-level.ensures.value)))
-
-pub expressions::expr-returns-in_err-whole-2-clause-none : goal.expressions::expr-returns-in_err-whole-2-clause-none
-expressions::expr-returns-in_err-whole-2-clause-none t c = passes _ c.from_residual-in_err-whole-2.ensures.1 (refutes_form c.levels.invariant.grown (refutes_form (grown_form (sym c.level_at-level.ensures.value) (omega arith)) (refutes_first c.in_err-whole-2.ensures.none)))
-
-pub tables::fields-returns-then-is_at-clause-only : goal.tables::fields-returns-then-is_at-clause-only
-tables::fields-returns-then-is_at-clause-only t c = ahead_end c.fields.invariant.ahead (fields_end {i = c.fields.at} (is_at _ c.is_at.ensures c.if-is_at.true))
-
-pub tables::fields-returns-in_err-one-clause-none : goal.tables::fields-returns-in_err-one-clause-none
-tables::fields-returns-in_err-one-clause-none t c = passes _ c.from_residual.ensures.1 (ahead_refutes _ c.fields.invariant.ahead (refutes_form (fields_form (not_at _ c.is_at.ensures c.if-is_at.false)) (refutes_first c.in_err-one.ensures.none)))
-
-pub tables::fields-returns-in-None-clause-only : goal.tables::fields-returns-in-None-clause-only
-tables::fields-returns-in-None-clause-only t c = ahead_last _ c.fields.invariant.ahead c.in_ok-push.ensures.ok (list_last (fields_form (not_at _ c.is_at.ensures c.if-is_at.false)) c.in_ok-one.ensures.only c.in-None.ensures.none)
-
-pub loops::for_step-returns-in_err-step-clause-none : goal.loops::for_step-returns-in_err-step-clause-none
-loops::for_step-returns-in_err-step-clause-none t c = passes _ c.from_residual.ensures.1 (refutes_form (for_step_form c.in-Some.ensures.token) (refutes_first c.in_err-step.ensures.none))
-
-pub loops::for_step-returns-clause-only : goal.loops::for_step-returns-clause-only
-loops::for_step-returns-clause-only t c = alone_form (for_step_form c.in-Some.ensures.token) (alone_next c.in_ok-step.ensures.only ((λ y h. h)))
-
-pub blocks::func_body-returns-in_err-first-clause-none : goal.blocks::func_body-returns-in_err-first-clause-none
-blocks::func_body-returns-in_err-first-clause-none t c = passes _ c.from_residual.ensures.1 (refutes_form func_body_form (refutes_first c.in_err-first.ensures.none))
-
-pub blocks::func_body-returns-in_err-params-clause-none : goal.blocks::func_body-returns-in_err-params-clause-none
-blocks::func_body-returns-in_err-params-clause-none t c = passes _ c.from_residual-in_err-params.ensures.1 (refutes_form func_body_form (refutes_next c.in_ok-first.ensures.only (refutes_first c.in_err-params.ensures.none)))
-
-pub blocks::func_body-returns-in_err-inside-clause-none : goal.blocks::func_body-returns-in_err-inside-clause-none
-blocks::func_body-returns-in_err-inside-clause-none t c = passes _ c.from_residual-in_err-inside.ensures.1 (refutes_form func_body_form (refutes_next c.in_ok-first.ensures.only (refutes_next c.in_ok-params.ensures.only (refutes_first c.in_err-inside.ensures.none))))
-
-pub blocks::func_body-returns-in_err-body-clause-none : goal.blocks::func_body-returns-in_err-body-clause-none
-blocks::func_body-returns-in_err-body-clause-none t c = passes _ c.from_residual-in_err-body.ensures.1 (refutes_form func_body_form (refutes_next c.in_ok-first.ensures.only (refutes_next c.in_ok-params.ensures.only (refutes_next c.in_ok-inside.ensures.only (refutes_first c.in_err-body.ensures.none)))))
-
-pub blocks::func_body-returns-in_err-to-clause-none : goal.blocks::func_body-returns-in_err-to-clause-none
-blocks::func_body-returns-in_err-to-clause-none t c = passes _ c.from_residual-in_err-to.ensures.1 (refutes_form func_body_form (refutes_next c.in_ok-first.ensures.only (refutes_next c.in_ok-params.ensures.only (refutes_next c.in_ok-inside.ensures.only (refutes_next c.in_ok-body.ensures.only (refutes_first c.in_err-to.ensures.none))))))
-
-pub blocks::func_body-returns-clause-only : goal.blocks::func_body-returns-clause-only
-blocks::func_body-returns-clause-only t c = alone_form func_body_form (alone_next c.in_ok-first.ensures.only (alone_next c.in_ok-params.ensures.only (alone_next c.in_ok-inside.ensures.only (alone_next c.in_ok-body.ensures.only (alone_next c.in_ok-to.ensures.only ((λ y h. h)))))))
-
-pub expressions::function-returns-in_err-inner-clause-none : goal.expressions::function-returns-in_err-inner-clause-none
-expressions::function-returns-in_err-inner-clause-none t c = passes _ c.from_residual.ensures.1 (refutes_first c.in_err-inner.ensures.none)
-
-pub statements::function_stat-returns-in_err-inner-clause-none : goal.statements::function_stat-returns-in_err-inner-clause-none
-statements::function_stat-returns-in_err-inner-clause-none t c = passes _ c.from_residual.ensures.1 (refutes_first c.in_err-inner.ensures.none)
-
-pub tables::keyed-returns-in_err-inner-clause-none : goal.tables::keyed-returns-in_err-inner-clause-none
-tables::keyed-returns-in_err-inner-clause-none t c = passes _ c.from_residual.ensures.1 (refutes_first c.in_err-inner.ensures.none)
-
-pub prefixes::list_args-returns-in_err-inner-clause-none : goal.prefixes::list_args-returns-in_err-inner-clause-none
-prefixes::list_args-returns-in_err-inner-clause-none t c = passes _ c.from_residual.ensures.1 (refutes_first c.in_err-inner.ensures.none)
-
-pub statements::repeat_stat-returns-in_err-inner-clause-none : goal.statements::repeat_stat-returns-in_err-inner-clause-none
-statements::repeat_stat-returns-in_err-inner-clause-none t c = passes _ c.from_residual.ensures.1 (refutes_first c.in_err-inner.ensures.none)
-
-pub prefixes::head-returns-in-Some-clause-only : goal.prefixes::head-returns-in-Some-clause-only
-prefixes::head-returns-in-Some-clause-only t c = head_name c.in-Some.ensures.token
-
-pub prefixes::head-returns-clause-only : goal.prefixes::head-returns-clause-only
-prefixes::head-returns-clause-only t c = alone_form (head_form c.in_default.ensures.other) (alone_next c.in_ok-expr.ensures.only (λ y h. h))
-
-pub statements::local_stat-returns-in_err-inner-clause-none : goal.statements::local_stat-returns-in_err-inner-clause-none
-statements::local_stat-returns-in_err-inner-clause-none t c = passes _ c.from_residual.ensures.1 (refutes_form (λ y h. h.function _ c.in-Some.ensures.token) (refutes_first c.in_err-inner.ensures.none))
-
-pub statements::local_stat-returns-in_err-inside-clause-none : goal.statements::local_stat-returns-in_err-inside-clause-none
-statements::local_stat-returns-in_err-inside-clause-none t c = passes _ c.from_residual-in_err-inside.ensures.1 (refutes_form (λ y h. h.function _ c.in-Some.ensures.token) (refutes_next c.in_ok-inner.ensures.only (refutes_first c.in_err-inside.ensures.none)))
-
-pub statements::local_stat-returns-in_err-body-clause-none : goal.statements::local_stat-returns-in_err-body-clause-none
-statements::local_stat-returns-in_err-body-clause-none t c = passes _ c.from_residual-in_err-body.ensures.1 (refutes_form (λ y h. h.function _ c.in-Some.ensures.token) (refutes_next c.in_ok-inner.ensures.only (refutes_next c.in_ok-inside.ensures.only (refutes_first c.in_err-body.ensures.none))))
-
-pub statements::local_stat-returns-in-Some-clause-only : goal.statements::local_stat-returns-in-Some-clause-only
-statements::local_stat-returns-in-Some-clause-only t c = alone_form (λ y h. h.function _ c.in-Some.ensures.token) (alone_next c.in_ok-inner.ensures.only (alone_next c.in_ok-inside.ensures.only (alone_next c.in_ok-body.ensures.only ((λ y h. h)))))
-
-pub statements::local_stat-returns-in_err-values-clause-none : goal.statements::local_stat-returns-in_err-values-clause-none
-statements::local_stat-returns-in_err-values-clause-none t c = passes _ c.from_residual-in_err-values.ensures.1 (refutes_form (λ y h. h.named c.in_default.ensures.other) (refutes_next c.in_ok-names.ensures.only (refutes_form (λ y h. h.values _ c.in-Some-eat.ensures.token) (refutes_first c.in_err-values.ensures.none))))
-
-pub statements::local_stat-returns-clause-only : goal.statements::local_stat-returns-clause-only
-statements::local_stat-returns-clause-only t c = alone_form (λ y h. h.named c.in_default.ensures.other) (alone_next c.in_ok-names.ensures.only (alone_form (λ y h. h.values _ c.in-Some-eat.ensures.token) (alone_next c.in_ok-values.ensures.only (λ y h. h))))
-
-pub prefixes::lone_arg-returns-in_err-enter-clause-none : goal.prefixes::lone_arg-returns-in_err-enter-clause-none
-prefixes::lone_arg-returns-in_err-enter-clause-none t c = passes _ c.from_residual.ensures.1 (refutes_form (lone_string c.in-Some.ensures.some) (refutes_first c.in_err-enter.ensures.none))
-
-pub prefixes::lone_arg-returns-in-Some-clause-only : goal.prefixes::lone_arg-returns-in-Some-clause-only
-prefixes::lone_arg-returns-in-Some-clause-only t c = alone_form (lone_string c.in-Some.ensures.some) (alone_next c.in_ok-enter.ensures.only (λ y h. h))
-
-pub prefixes::lone_arg-returns-in_err-expect-clause-none : goal.prefixes::lone_arg-returns-in_err-expect-clause-none
-prefixes::lone_arg-returns-in_err-expect-clause-none t c = passes _ c.from_residual-in_err-expect.ensures.1 (refutes_form (lone_table c.in_default.ensures.none) (refutes_first c.in_err-expect.ensures.none))
-
-pub prefixes::lone_arg-returns-in_err-inner-clause-none : goal.prefixes::lone_arg-returns-in_err-inner-clause-none
-prefixes::lone_arg-returns-in_err-inner-clause-none t c = passes _ c.from_residual-in_err-inner.ensures.1 (refutes_form (lone_table c.in_default.ensures.none) (refutes_next c.in_ok-expect.ensures.only (refutes_first c.in_err-inner.ensures.none)))
-
-pub prefixes::lone_arg-returns-in_err-fields-clause-none : goal.prefixes::lone_arg-returns-in_err-fields-clause-none
-prefixes::lone_arg-returns-in_err-fields-clause-none t c = passes _ c.from_residual-in_err-fields.ensures.1 (refutes_form (lone_table c.in_default.ensures.none) (refutes_next c.in_ok-expect.ensures.only (refutes_next c.in_ok-inner.ensures.only (refutes_first c.in_err-fields.ensures.none))))
-
-pub prefixes::lone_arg-returns-clause-only : goal.prefixes::lone_arg-returns-clause-only
-prefixes::lone_arg-returns-clause-only t c = alone_form (lone_table c.in_default.ensures.none) (alone_next c.in_ok-expect.ensures.only (alone_next c.in_ok-inner.ensures.only (alone_next c.in_ok-fields.ensures.only ((λ y h. h)))))
-
-pub expressions::operand-returns-in_default-clause-none : goal.expressions::operand-returns-in_default-clause-none
-expressions::operand-returns-in_default-clause-none t c = record { nothing = λ known. operand_inside c.in_default.ensures.end }
-
-pub expressions::operand-returns-in_err-inner-clause-none : goal.expressions::operand-returns-in_err-inner-clause-none
-expressions::operand-returns-in_err-inner-clause-none t c = passes _ c.from_residual.ensures.1 (refutes_form (unary_form c.in-Some.ensures.token (cc (c.is_unary.ensures, c.if-is_unary.true))) (refutes_first c.in_err-inner.ensures.none))
-
-pub expressions::operand-returns-in_err-operand-clause-none : goal.expressions::operand-returns-in_err-operand-clause-none
-expressions::operand-returns-in_err-operand-clause-none t c = passes _ c.from_residual-in_err-operand.ensures.1 (refutes_form (unary_form c.in-Some.ensures.token (cc (c.is_unary.ensures, c.if-is_unary.true))) (refutes_next c.in_ok-inner.ensures.only (refutes_first c.in_err-operand.ensures.none)))
-
-pub expressions::operand-returns-then-is_unary-clause-only : goal.expressions::operand-returns-then-is_unary-clause-only
-expressions::operand-returns-then-is_unary-clause-only t c = alone_form (unary_form c.in-Some.ensures.token (cc (c.is_unary.ensures, c.if-is_unary.true))) (alone_next c.in_ok-inner.ensures.only (alone_next c.in_ok-operand.ensures.only (alone_is (ap (λ (b : Expr). expression c.args.at (out-Expr c.in_ok-operand.operand).to (expr.Unary b)) (sym c.in_ok-new.ensures)))))
-
-pub expressions::operand-returns-clause-only : goal.expressions::operand-returns-clause-only
-expressions::operand-returns-clause-only t c = ok_form _ (power_form c.in-Some.ensures.token (cc (c.is_unary.ensures, c.if-is_unary.false))) c.power.ensures.only
-
-pub expressions::operand-returns-clause-none : goal.expressions::operand-returns-clause-none
-expressions::operand-returns-clause-none t c = err_form _ (power_form c.in-Some.ensures.token (cc (c.is_unary.ensures, c.if-is_unary.false))) c.power.ensures.none
-
-pub prefixes::paren-returns-in_err-next-clause-none : goal.prefixes::paren-returns-in_err-next-clause-none
-prefixes::paren-returns-in_err-next-clause-none t c = passes _ c.from_residual.ensures.1 (refutes_form paren_form (refutes_first c.in_err-next.ensures.none))
-
-pub prefixes::paren-returns-in_err-inner-clause-none : goal.prefixes::paren-returns-in_err-inner-clause-none
-prefixes::paren-returns-in_err-inner-clause-none t c = passes _ c.from_residual-in_err-inner.ensures.1 (refutes_form paren_form (refutes_next c.in_ok-next.ensures.only (refutes_first c.in_err-inner.ensures.none)))
-
-pub prefixes::paren-returns-in_err-inside-clause-none : goal.prefixes::paren-returns-in_err-inside-clause-none
-prefixes::paren-returns-in_err-inside-clause-none t c = passes _ c.from_residual-in_err-inside.ensures.1 (refutes_form paren_form (refutes_next c.in_ok-next.ensures.only (refutes_next c.in_ok-inner.ensures.only (refutes_first c.in_err-inside.ensures.none))))
-
-pub prefixes::paren-returns-in_err-to-clause-none : goal.prefixes::paren-returns-in_err-to-clause-none
-prefixes::paren-returns-in_err-to-clause-none t c = passes _ c.from_residual-in_err-to.ensures.1 (refutes_form paren_form (refutes_next c.in_ok-next.ensures.only (refutes_next c.in_ok-inner.ensures.only (refutes_next c.in_ok-inside.ensures.only (refutes_first c.in_err-to.ensures.none)))))
-
-pub prefixes::paren-returns-clause-only : goal.prefixes::paren-returns-clause-only
-prefixes::paren-returns-clause-only t c = alone_form paren_form (alone_next c.in_ok-next.ensures.only (alone_next c.in_ok-inner.ensures.only (alone_next c.in_ok-inside.ensures.only (alone_next c.in_ok-to.ensures.only (alone_is (ap (λ (b : Expr). expression c.args.at c.in_ok-to.to (expr.Paren b)) (sym c.in_ok-new.ensures)))))))
-
-pub expressions::power-returns-in_err-inner-clause-none : goal.expressions::power-returns-in_err-inner-clause-none
-expressions::power-returns-in_err-inner-clause-none t c = passes _ c.from_residual-in_err-inner.ensures.1 (refutes_next c.in_ok-base.ensures.only (refutes_form (λ y h. h.power _ c.in-Some.ensures.token) (refutes_first c.in_err-inner.ensures.none)))
-
-pub expressions::power-returns-in_err-exponent-clause-none : goal.expressions::power-returns-in_err-exponent-clause-none
-expressions::power-returns-in_err-exponent-clause-none t c = passes _ c.from_residual-in_err-exponent.ensures.1 (refutes_next c.in_ok-base.ensures.only (refutes_form (λ y h. h.power _ c.in-Some.ensures.token) (refutes_next c.in_ok-inner.ensures.only (refutes_first c.in_err-exponent.ensures.none))))
-
-pub expressions::power-returns-clause-only : goal.expressions::power-returns-clause-only
-expressions::power-returns-clause-only t c = alone_next c.in_ok-base.ensures.only (alone_form (λ y h. h.power _ c.in-Some.ensures.token) (alone_next c.in_ok-inner.ensures.only (alone_next c.in_ok-exponent.ensures.only (alone_is (ap (λ (b : Expr). expression c.args.at (out-Expr c.in_ok-exponent.exponent).to (expr.Power b (out-Expr c.in_ok-base.base).to c.in_ok-exponent.exponent)) (sym c.in_ok-new.ensures) ∙ ap (λ (b : Expr). expression c.args.at (out-Expr c.in_ok-exponent.exponent).to (expr.Power c.in_ok-new.field-0 (out-Expr c.in_ok-base.base).to b)) (sym c.in_ok-new-2.ensures))))))
-
-pub prefixes::prefix-returns-in_err-head-clause-none : goal.prefixes::prefix-returns-in_err-head-clause-none
-prefixes::prefix-returns-in_err-head-clause-none t c = passes _ c.from_residual.ensures.1 (refutes_form prefix_form (refutes_first c.in_err-head.ensures.none))
-
-pub prefixes::prefix-returns-then-not-begins_suffix-clause-only : goal.prefixes::prefix-returns-then-not-begins_suffix-clause-only
-prefixes::prefix-returns-then-not-begins_suffix-clause-only t c = alone_form prefix_form (alone_next c.in_ok-head.ensures.only (λ y h. h.alone (cc (c.begins_suffix.ensures, c.if-not-begins_suffix.true))))
-
-pub prefixes::prefix-returns-in_err-found-clause-none : goal.prefixes::prefix-returns-in_err-found-clause-none
-prefixes::prefix-returns-in_err-found-clause-none t c = passes _ c.from_residual-in_err-found.ensures.1 (refutes_form prefix_form (refutes_next c.in_ok-head.ensures.only (refutes_form (λ y h. h.more (cc (c.begins_suffix.ensures, c.if-not-begins_suffix.false))) (refutes_first c.in_err-found.ensures.none))))
-
-pub prefixes::prefix-returns-clause-only : goal.prefixes::prefix-returns-clause-only
-prefixes::prefix-returns-clause-only t c = alone_form prefix_form (alone_next c.in_ok-head.ensures.only (alone_form (λ y h. h.more (cc (c.begins_suffix.ensures, c.if-not-begins_suffix.false))) (alone_next c.in_ok-found.ensures.only (alone_is (made_prefix _ _ c.suffixed.ensures c.in_ok-new.ensures)))))
-
-pub expressions::simple-returns-in_default-clause-none : goal.expressions::simple-returns-in_default-clause-none
-expressions::simple-returns-in_default-clause-none t c = record { nothing = λ known. simple_inside c.in_default.ensures.end }
-
-pub expressions::simple-returns-in-Some-leaf-clause-only : goal.expressions::simple-returns-in-Some-leaf-clause-only
-expressions::simple-returns-in-Some-leaf-clause-only t c = leaf_only {tok = c.in-Some.tok} (record { there = cc (c.in-Some.ensures.token.there, c.in-Some.tok-is); next = omega (arith, c.in-Some.ensures.token.next, c.in-Some.to-is) }) (cc (c.leaf.ensures.kind, c.in-Some-leaf.is))
-
-pub expressions::simple-returns-in_err-found-clause-none : goal.expressions::simple-returns-in_err-found-clause-none
-expressions::simple-returns-in_err-found-clause-none t c = passes _ c.from_residual.ensures.1 (refutes_form (prefixed_form c.in-Some.ensures.token (cc (c.leaf.ensures.kind, c.in_default-leaf.is)) c.in_default-eat.ensures.other (not_at _ c.is_at.ensures c.if-is_at.false)) (refutes_first c.in_err-found.ensures.none))
-
-pub expressions::simple-returns-clause-only : goal.expressions::simple-returns-clause-only
-expressions::simple-returns-clause-only t c = alone_form (prefixed_form c.in-Some.ensures.token (cc (c.leaf.ensures.kind, c.in_default-leaf.is)) c.in_default-eat.ensures.other (not_at _ c.is_at.ensures c.if-is_at.false)) (alone_next c.in_ok-found.ensures.only (λ y h. h))
+pub prefixes::suffix-returns-in-Some-eat-clause-ok : goal.prefixes::suffix-returns-in-Some-eat-clause-ok
+prefixes::suffix-returns-in-Some-eat-clause-ok t c = index_found c.in-Some-eat.ensures.token c.in_ok-inner.ensures.ok c.in_ok-key.ensures.ok c.in_ok-to-2.ensures.token c.in_ok-to-2.ensures.within
 
 pub prefixes::suffix-returns-in_err-to-clause-none : goal.prefixes::suffix-returns-in_err-to-clause-none
 prefixes::suffix-returns-in_err-to-clause-none t c = passes _ c.from_residual.ensures.1 (refutes_form (dot_form c.in-Some.ensures.token) (refutes_first c.in_err-to.ensures.none))
@@ -770,59 +397,126 @@ prefixes::suffix-returns-in_err-given-2-clause-none t c = passes _ c.from_residu
 pub prefixes::suffix-returns-clause-only : goal.prefixes::suffix-returns-clause-only
 prefixes::suffix-returns-clause-only t c = alone_form (call_form c.in_default.ensures.other c.in_default-eat.ensures.other c.in_default-eat-2.ensures.other) (alone_next c.in_ok-given-2.ensures.only ((λ y h. h)))
 
-pub prefixes::suffixes-returns-in_err-one-clause-none : goal.prefixes::suffixes-returns-in_err-one-clause-none
-prefixes::suffixes-returns-in_err-one-clause-none t c = passes _ c.from_residual.ensures.1 (refutes_triple _ (ahead_refutes _ c.loop-found.invariant.ahead (refutes_form suffixes_form (refutes_first c.in_err-one.ensures.none))))
+pub prefixes::args-returns-in-Some-clause-only : goal.prefixes::args-returns-in-Some-clause-only
+prefixes::args-returns-in-Some-clause-only t c = ok_form _ (args_list c.in-Some.ensures.token) c.list_args.ensures.only
 
-pub prefixes::suffixes-returns-then-not-begins_suffix-clause-only : goal.prefixes::suffixes-returns-then-not-begins_suffix-clause-only
-prefixes::suffixes-returns-then-not-begins_suffix-clause-only t c = alone_triple _ (ahead_last _ c.loop-found.invariant.ahead c.in_ok-push.ensures.ok (list_last suffixes_form c.in_ok-one.ensures.only (λ next h. let b = h.0 in absurd (cc (b, c.begins_suffix.ensures, c.if-not-begins_suffix.true)))))
+pub prefixes::args-returns-in-Some-clause-none : goal.prefixes::args-returns-in-Some-clause-none
+prefixes::args-returns-in-Some-clause-none t c = err_form _ (args_list c.in-Some.ensures.token) c.list_args.ensures.none
 
-pub tables::table-returns-in_err-first-clause-none : goal.tables::table-returns-in_err-first-clause-none
-tables::table-returns-in_err-first-clause-none t c = passes _ c.from_residual.ensures.1 (refutes_form table_form (refutes_first c.in_err-first.ensures.none))
+pub prefixes::args-returns-clause-only : goal.prefixes::args-returns-clause-only
+prefixes::args-returns-clause-only t c = alone_form (args_lone c.in_default.ensures.other) (alone_next c.in_ok-item.ensures.only (alone_is (ap (λ es. list_made c.args.at (out-Expr c.in_ok-item.item).to es) (sym (c.in_ok-push.ensures.ok ∙ ap (λ xs. xs ++ c.in_ok-item.item ∷ []) c.new-items.ensures)))))
 
-pub tables::table-returns-in_err-inner-clause-none : goal.tables::table-returns-in_err-inner-clause-none
-tables::table-returns-in_err-inner-clause-none t c = passes _ c.from_residual-in_err-inner.ensures.1 (refutes_form table_form (refutes_next c.in_ok-first.ensures.only (refutes_first c.in_err-inner.ensures.none)))
+pub prefixes::args-returns-in_err-item-clause-none : goal.prefixes::args-returns-in_err-item-clause-none
+prefixes::args-returns-in_err-item-clause-none t c = passes _ c.from_residual.ensures.1 (refutes_form (args_lone c.in_default.ensures.other) (refutes_first c.in_err-item.ensures.none))
 
-pub tables::table-returns-in_err-found-clause-none : goal.tables::table-returns-in_err-found-clause-none
-tables::table-returns-in_err-found-clause-none t c = passes _ c.from_residual-in_err-found.ensures.1 (refutes_form table_form (refutes_next c.in_ok-first.ensures.only (refutes_next c.in_ok-inner.ensures.only (refutes_first c.in_err-found.ensures.none))))
+pub prefixes::list_args-returns-clause-ok : goal.prefixes::list_args-returns-clause-ok
+prefixes::list_args-returns-clause-ok t c = made_args _ _ _ _ (list_args_found c.requires.sign c.in_ok-inner.ensures.ok c.in_ok-items.ensures.ok c.in_ok-to.ensures.token c.in_ok-to.ensures.within)
 
-pub tables::table-returns-in_err-to-clause-none : goal.tables::table-returns-in_err-to-clause-none
-tables::table-returns-in_err-to-clause-none t c = passes _ c.from_residual-in_err-to.ensures.1 (refutes_form table_form (refutes_next c.in_ok-first.ensures.only (refutes_next c.in_ok-inner.ensures.only (refutes_next c.in_ok-found.ensures.only (refutes_first c.in_err-to.ensures.none)))))
+pub prefixes::list_args-returns-in-Some-clause-ok : goal.prefixes::list_args-returns-in-Some-clause-ok
+prefixes::list_args-returns-in-Some-clause-ok t c = made_args _ _ _ _ (no_args_found _ c.requires.sign c.in_ok-inner.ensures.ok c.in-Some.ensures.token c.in-Some.ensures.within c.new.ensures)
 
-pub tables::table-returns-clause-only : goal.tables::table-returns-clause-only
-tables::table-returns-clause-only t c = alone_form table_form (alone_next c.in_ok-first.ensures.only (alone_next c.in_ok-inner.ensures.only (alone_next c.in_ok-found.ensures.only (alone_next c.in_ok-to.ensures.only ((λ y h. h))))))
+pub prefixes::list_args-returns-in_err-inner-clause-none : goal.prefixes::list_args-returns-in_err-inner-clause-none
+prefixes::list_args-returns-in_err-inner-clause-none t c = passes _ c.from_residual.ensures.1 (refutes_first c.in_err-inner.ensures.none)
 
-pub assignments::targets-returns-in_default-clause-only : goal.assignments::targets-returns-in_default-clause-only
-assignments::targets-returns-in_default-clause-only t c = ahead_last _ c.loop-found.invariant.ahead c.in_ok-push.ensures.ok (targets_last c.in_default.ensures.other)
+pub prefixes::lone_arg-returns-in-Some-clause-ok : goal.prefixes::lone_arg-returns-in-Some-clause-ok
+prefixes::lone_arg-returns-in-Some-clause-ok t c = string_arg_found _ c.in-Some.ensures.some c.in-Some.ensures.forward c.in_ok-enter.ensures.ok c.in-Some.ensures.within
 
-pub assignments::targets-returns-in_err-one-clause-none : goal.assignments::targets-returns-in_err-one-clause-none
-assignments::targets-returns-in_err-one-clause-none t c = passes _ c.from_residual-in_err-one.ensures.1 (ahead_refutes _ c.loop-found.invariant.ahead (refutes_form (targets_form c.in-Some.ensures.token) (refutes_first c.in_err-one.ensures.none)))
+pub prefixes::lone_arg-returns-clause-ok : goal.prefixes::lone_arg-returns-clause-ok
+prefixes::lone_arg-returns-clause-ok t c = table_arg_found c.in_ok-inner.ensures.ok c.in_ok-fields.ensures.ok
 
-pub assignments::variable-returns-in_err-prefix-clause-none : goal.assignments::variable-returns-in_err-prefix-clause-none
-assignments::variable-returns-in_err-prefix-clause-none t c = passes _ c.from_residual.ensures.1 (refutes_by (λ y h. (record { shape = Variable; expr = y }, variable_prefix y h)) c.in_err-prefix.ensures.none)
+pub prefixes::lone_arg-returns-in_err-enter-clause-none : goal.prefixes::lone_arg-returns-in_err-enter-clause-none
+prefixes::lone_arg-returns-in_err-enter-clause-none t c = passes _ c.from_residual.ensures.1 (refutes_form (lone_string c.in-Some.ensures.some) (refutes_first c.in_err-enter.ensures.none))
 
-pub assignments::variable-returns-in-Variable-clause-only : goal.assignments::variable-returns-in-Variable-clause-only
-assignments::variable-returns-in-Variable-clause-only t c = λ y h. ap (λ (p : PrefixExpr). p.expr) (c.in_ok-prefix.ensures.only (record { shape = Variable; expr = y }) (variable_prefix y h))
+pub prefixes::lone_arg-returns-in-Some-clause-only : goal.prefixes::lone_arg-returns-in-Some-clause-only
+prefixes::lone_arg-returns-in-Some-clause-only t c = alone_form (lone_string c.in-Some.ensures.some) (alone_next c.in_ok-enter.ensures.only (λ y h. h))
 
-pub assignments::variable-returns-in_default : goal.assignments::variable-returns-in_default
-assignments::variable-returns-in_default t c = record { ok = tt; only = tt; err = c.refusal.ensures; none = record { nothing = λ known y h. let e = c.in_ok-prefix.ensures.only (record { shape = Variable; expr = y }) (variable_prefix y h) in c.in_default.not-Variable (ap (λ (p : PrefixExpr). p.shape) (sym e)) } }
+pub prefixes::lone_arg-returns-in_err-expect-clause-none : goal.prefixes::lone_arg-returns-in_err-expect-clause-none
+prefixes::lone_arg-returns-in_err-expect-clause-none t c = passes _ c.from_residual-in_err-expect.ensures.1 (refutes_form (lone_table c.in_default.ensures.none) (refutes_first c.in_err-expect.ensures.none))
 
-pub statements::while_stat-returns-in_err-body-clause-none : goal.statements::while_stat-returns-in_err-body-clause-none
-statements::while_stat-returns-in_err-body-clause-none t c = passes _ c.from_residual-in_err-body.ensures.1 (refutes_next c.in_ok-test.ensures.only (refutes_next c.in_ok-inside.ensures.only (refutes_first c.in_err-body.ensures.none)))
+pub prefixes::lone_arg-returns-in_err-inner-clause-none : goal.prefixes::lone_arg-returns-in_err-inner-clause-none
+prefixes::lone_arg-returns-in_err-inner-clause-none t c = passes _ c.from_residual-in_err-inner.ensures.1 (refutes_form (lone_table c.in_default.ensures.none) (refutes_next c.in_ok-expect.ensures.only (refutes_first c.in_err-inner.ensures.none)))
 
-pub statements::while_stat-returns-clause-only : goal.statements::while_stat-returns-clause-only
-statements::while_stat-returns-clause-only t c = alone_next c.in_ok-test.ensures.only (alone_next c.in_ok-inside.ensures.only (alone_next c.in_ok-body.ensures.only (λ y h. h)))
+pub prefixes::lone_arg-returns-in_err-fields-clause-none : goal.prefixes::lone_arg-returns-in_err-fields-clause-none
+prefixes::lone_arg-returns-in_err-fields-clause-none t c = passes _ c.from_residual-in_err-fields.ensures.1 (refutes_form (lone_table c.in_default.ensures.none) (refutes_next c.in_ok-expect.ensures.only (refutes_next c.in_ok-inner.ensures.only (refutes_first c.in_err-fields.ensures.none))))
 
-pub expressions::simple-returns-in-Some-eat-clause-only : goal.expressions::simple-returns-in-Some-eat-clause-only
-expressions::simple-returns-in-Some-eat-clause-only t c = ok_form _ (function_form c.in-Some-eat.ensures.token) c.function.ensures.only
+pub prefixes::lone_arg-returns-clause-only : goal.prefixes::lone_arg-returns-clause-only
+prefixes::lone_arg-returns-clause-only t c = alone_form (lone_table c.in_default.ensures.none) (alone_next c.in_ok-expect.ensures.only (alone_next c.in_ok-inner.ensures.only (alone_next c.in_ok-fields.ensures.only ((λ y h. h)))))
 
-pub expressions::simple-returns-in-Some-eat-clause-none : goal.expressions::simple-returns-in-Some-eat-clause-none
-expressions::simple-returns-in-Some-eat-clause-none t c = err_form _ (function_form c.in-Some-eat.ensures.token) c.function.ensures.none
+pub blocks::func_body-returns-clause-ok : goal.blocks::func_body-returns-clause-ok
+blocks::func_body-returns-clause-ok t c =
+    made_body _ _ _ _ _ (func_body_found c.in_ok-first.ensures.token c.in_ok-params.ensures.ok c.in_ok-inside.ensures.token c.in_ok-body.ensures.ok c.in_ok-to.ensures.token c.in_ok-to.ensures.within)
 
-pub expressions::simple-returns-then-is_at-clause-only : goal.expressions::simple-returns-then-is_at-clause-only
-expressions::simple-returns-then-is_at-clause-only t c = ok_form _ (table_expr_form (is_at _ c.is_at.ensures c.if-is_at.true)) c.table_expr.ensures.only
+pub blocks::func_body-returns-in_err-first-clause-none : goal.blocks::func_body-returns-in_err-first-clause-none
+blocks::func_body-returns-in_err-first-clause-none t c = passes _ c.from_residual.ensures.1 (refutes_form func_body_form (refutes_first c.in_err-first.ensures.none))
 
-pub expressions::simple-returns-then-is_at-clause-none : goal.expressions::simple-returns-then-is_at-clause-none
-expressions::simple-returns-then-is_at-clause-none t c = err_form _ (table_expr_form (is_at _ c.is_at.ensures c.if-is_at.true)) c.table_expr.ensures.none
+pub blocks::func_body-returns-in_err-params-clause-none : goal.blocks::func_body-returns-in_err-params-clause-none
+blocks::func_body-returns-in_err-params-clause-none t c = passes _ c.from_residual-in_err-params.ensures.1 (refutes_form func_body_form (refutes_next c.in_ok-first.ensures.only (refutes_first c.in_err-params.ensures.none)))
+
+pub blocks::func_body-returns-in_err-inside-clause-none : goal.blocks::func_body-returns-in_err-inside-clause-none
+blocks::func_body-returns-in_err-inside-clause-none t c = passes _ c.from_residual-in_err-inside.ensures.1 (refutes_form func_body_form (refutes_next c.in_ok-first.ensures.only (refutes_next c.in_ok-params.ensures.only (refutes_first c.in_err-inside.ensures.none))))
+
+pub blocks::func_body-returns-in_err-body-clause-none : goal.blocks::func_body-returns-in_err-body-clause-none
+blocks::func_body-returns-in_err-body-clause-none t c = passes _ c.from_residual-in_err-body.ensures.1 (refutes_form func_body_form (refutes_next c.in_ok-first.ensures.only (refutes_next c.in_ok-params.ensures.only (refutes_next c.in_ok-inside.ensures.only (refutes_first c.in_err-body.ensures.none)))))
+
+pub blocks::func_body-returns-in_err-to-clause-none : goal.blocks::func_body-returns-in_err-to-clause-none
+blocks::func_body-returns-in_err-to-clause-none t c = passes _ c.from_residual-in_err-to.ensures.1 (refutes_form func_body_form (refutes_next c.in_ok-first.ensures.only (refutes_next c.in_ok-params.ensures.only (refutes_next c.in_ok-inside.ensures.only (refutes_next c.in_ok-body.ensures.only (refutes_first c.in_err-to.ensures.none))))))
+
+pub blocks::func_body-returns-clause-only : goal.blocks::func_body-returns-clause-only
+blocks::func_body-returns-clause-only t c = alone_form func_body_form (alone_next c.in_ok-first.ensures.only (alone_next c.in_ok-params.ensures.only (alone_next c.in_ok-inside.ensures.only (alone_next c.in_ok-body.ensures.only (alone_next c.in_ok-to.ensures.only ((λ y h. h)))))))
+
+pub blocks::block-loop-stats-preserved : goal.blocks::block-loop-stats-preserved
+blocks::block-loop-stats-preserved t c =
+    let h0 = c.in_ok-one.ensures in
+    record {
+      ahead = ahead_more _ c.loop-stats.invariant.ahead c.in_ok-push.ensures.ok (λ r q. then_rest h0.only (stats_form (sym c.ends_block.ensures ∙ c.loop-stats-test.true) r q));
+      joins = joins_more (AreStats (toks_of c.args.cut.now)) _ _ _ _ _ _ c.loop-stats.invariant.joins c.in_ok-push.ensures.ok (λ k rest h. more_stats h0.ok.derived h);
+      forward = omega arith;
+      within = omega arith;
+      level = level_more stat_levels _ _ _ _ c.loop-stats.invariant.level c.in_ok-push.ensures.ok h0.ok.level;
+    }
+
+pub blocks::block-returns-then-is_at-clause-ok : goal.blocks::block-returns-then-is_at-clause-ok
+blocks::block-returns-then-is_at-clause-ok t c =
+    let h0 = c.in_ok-last.ensures in
+    made_block _ _ _ (block_found (joins_last (AreStats (toks_of c.args.cut.now)) _ _ _ _ _ _ c.loop-stats.invariant.joins c.in_ok-push-2.ensures.ok (last_stat h0.ok.derived)) (omega arith) h0.ok.within
+    (level_more stat_levels _ _ _ _ c.loop-stats.invariant.level c.in_ok-push-2.ensures.ok h0.ok.level))
+
+pub blocks::block-returns-clause-ok : goal.blocks::block-returns-clause-ok
+blocks::block-returns-clause-ok t c =
+    made_block _ _ _ (block_found (joins_end (AreStats (toks_of c.args.cut.now)) _ _ _ c.loop-stats.invariant.joins no_stats) c.loop-stats.invariant.forward c.loop-stats.invariant.within c.loop-stats.invariant.level)
+
+pub blocks::block-returns-in_err-one-clause-none : goal.blocks::block-returns-in_err-one-clause-none
+blocks::block-returns-in_err-one-clause-none t c = passes _ c.from_residual.ensures.1 (refutes_form block_form (refutes_first (ahead_refutes _ c.loop-stats.invariant.ahead (refutes_form (stats_form (sym c.ends_block.ensures ∙ c.loop-stats-test.true)) (refutes_first c.in_err-one.ensures.none)))))
+
+pub blocks::block-returns-in_err-last-clause-none : goal.blocks::block-returns-in_err-last-clause-none
+blocks::block-returns-in_err-last-clause-none t c = passes _ c.from_residual-in_err-last.ensures.1 (refutes_form block_form (refutes_first (ahead_refutes _ c.loop-stats.invariant.ahead (refutes_form (last_form (is_at _ c.is_at.ensures c.if-is_at.true)) (refutes_first c.in_err-last.ensures.none)))))
+
+pub blocks::block-returns-then-is_at-clause-only : goal.blocks::block-returns-then-is_at-clause-only
+blocks::block-returns-then-is_at-clause-only t c = alone_form block_form (alone_next (ahead_last _ c.loop-stats.invariant.ahead c.in_ok-push-2.ensures.ok (λ r q. let f = last_form (is_at _ c.is_at.ensures c.if-is_at.true) r q in then_rest c.in_ok-last.ensures.only f)) (λ y h. h))
+
+pub blocks::block-returns-clause-only : goal.blocks::block-returns-clause-only
+blocks::block-returns-clause-only t c = alone_form block_form (alone_next (ahead_end c.loop-stats.invariant.ahead (stats_end {i = c.loop-stats.to} (sym c.ends_block.ensures ∙ c.loop-stats-test.false) (not_at _ c.is_at.ensures c.if-is_at.false))) (λ y h. h))
+
+pub blocks::last-returns-clause-ok : goal.blocks::last-returns-clause-ok
+blocks::last-returns-clause-ok t c = return_values_found c.in_ok-next.ensures.token c.in_ok-values.ensures.ok c.semicolon-2.ensures.found
+
+pub blocks::last-returns-then-ends_return-clause-ok : goal.blocks::last-returns-then-ends_return-clause-ok
+blocks::last-returns-then-ends_return-clause-ok t c = return_nothing_found c.in_ok-next.ensures.token c.semicolon.ensures.found c.new.ensures
+
+pub blocks::last-returns-in_err-next-clause-none : goal.blocks::last-returns-in_err-next-clause-none
+blocks::last-returns-in_err-next-clause-none t c = passes _ c.from_residual.ensures.1 (refutes_form return_form (refutes_first c.in_err-next.ensures.none))
+
+pub blocks::last-returns-then-ends_return-clause-only : goal.blocks::last-returns-then-ends_return-clause-only
+blocks::last-returns-then-ends_return-clause-only t c = alone_form return_form (alone_next c.in_ok-next.ensures.only (alone_form (λ y h. h.empty (sym c.ends_return.ensures ∙ c.if-ends_return.true)) (alone_next c.semicolon.ensures.only (alone_is (ap (λ es. statement c.args.at c.semicolon.result (stat.Return es)) (sym c.new.ensures))))))
+
+pub blocks::last-returns-in_err-values-clause-none : goal.blocks::last-returns-in_err-values-clause-none
+blocks::last-returns-in_err-values-clause-none t c = passes _ c.from_residual-in_err-values.ensures.1 (refutes_form return_form (refutes_next c.in_ok-next.ensures.only (refutes_form (λ y h. h.values (sym c.ends_return.ensures ∙ c.if-ends_return.false)) (refutes_first c.in_err-values.ensures.none))))
+
+pub blocks::last-returns-clause-only : goal.blocks::last-returns-clause-only
+blocks::last-returns-clause-only t c = alone_form return_form (alone_next c.in_ok-next.ensures.only (alone_form (λ y h. h.values (sym c.ends_return.ensures ∙ c.if-ends_return.false)) (alone_next c.in_ok-values.ensures.only (alone_next c.semicolon-2.ensures.only (λ y h. h)))))
+
+pub blocks::ended_block-returns-in_err-inner-clause-none : goal.blocks::ended_block-returns-in_err-inner-clause-none
+blocks::ended_block-returns-in_err-inner-clause-none t c = passes _ c.from_residual.ensures.1 (refutes_first c.in_err-inner.ensures.none)
 
 pub statements::stat-returns-in-Some-clause-only : goal.statements::stat-returns-in-Some-clause-only
 statements::stat-returns-in-Some-clause-only t c = ok_form _ (begins_word c.in-Some.ensures.token) c.local_stat.ensures.only
@@ -878,8 +572,139 @@ statements::stat-returns-then-begins_prefix-clause-none t c = err_form _ (expr_s
 pub statements::stat-returns-clause-none : goal.statements::stat-returns-clause-none
 statements::stat-returns-clause-none t c = err_form _ (short_form (sym c.begins_prefix.ensures ∙ c.if-begins_prefix.false) c.in_default.ensures.other c.in_default-eat.ensures.other c.in_default-eat-2.ensures.other c.in_default-eat-3.ensures.other c.in_default-eat-4.ensures.other c.in_default-eat-5.ensures.other c.in_default-eat-6.ensures.other) c.short_stat.ensures.none
 
-pub prefixes::args-returns-in_err-item-clause-none : goal.prefixes::args-returns-in_err-item-clause-none
-prefixes::args-returns-in_err-item-clause-none t c = passes _ c.from_residual.ensures.1 (refutes_form (args_lone c.in_default.ensures.other) (refutes_first c.in_err-item.ensures.none))
+pub statements::do_stat-returns-clause-ok : goal.statements::do_stat-returns-clause-ok
+statements::do_stat-returns-clause-ok t c = do_found c.requires.word c.in_ok-body.ensures.ok
+
+pub statements::do_stat-returns-in_err-body-clause-none : goal.statements::do_stat-returns-in_err-body-clause-none
+statements::do_stat-returns-in_err-body-clause-none t c = passes _ c.from_residual.ensures.1 (refutes_first c.in_err-body.ensures.none)
+
+pub statements::do_stat-returns-clause-only : goal.statements::do_stat-returns-clause-only
+statements::do_stat-returns-clause-only t c = alone_next c.in_ok-body.ensures.only ((λ y h. h))
+
+pub statements::while_stat-returns-clause-ok : goal.statements::while_stat-returns-clause-ok
+statements::while_stat-returns-clause-ok t c = while_found c.requires.word c.in_ok-test.ensures.ok c.in_ok-inside.ensures.token c.in_ok-body.ensures.ok
+
+pub statements::while_stat-returns-in_err-body-clause-none : goal.statements::while_stat-returns-in_err-body-clause-none
+statements::while_stat-returns-in_err-body-clause-none t c = passes _ c.from_residual-in_err-body.ensures.1 (refutes_next c.in_ok-test.ensures.only (refutes_next c.in_ok-inside.ensures.only (refutes_first c.in_err-body.ensures.none)))
+
+pub statements::while_stat-returns-clause-only : goal.statements::while_stat-returns-clause-only
+statements::while_stat-returns-clause-only t c = alone_next c.in_ok-test.ensures.only (alone_next c.in_ok-inside.ensures.only (alone_next c.in_ok-body.ensures.only (λ y h. h)))
+
+pub statements::repeat_stat-returns-clause-ok : goal.statements::repeat_stat-returns-clause-ok
+statements::repeat_stat-returns-clause-ok t c = repeat_found c.requires.word c.in_ok-inner.ensures.ok c.in_ok-body.ensures.ok c.in_ok-from.ensures.token c.in_ok-test.ensures.ok
+
+pub statements::repeat_stat-returns-in_err-inner-clause-none : goal.statements::repeat_stat-returns-in_err-inner-clause-none
+statements::repeat_stat-returns-in_err-inner-clause-none t c = passes _ c.from_residual.ensures.1 (refutes_first c.in_err-inner.ensures.none)
+
+pub statements::if_stat-returns-clause-ok : goal.statements::if_stat-returns-clause-ok
+statements::if_stat-returns-clause-ok t c = if_found c.requires.word c.in_ok-arms.ensures.ok c.in_ok-last.ensures.ok c.in_ok-to.ensures.token c.in_ok-to.ensures.within
+
+pub statements::arms-loop-found-preserved : goal.statements::arms-loop-found-preserved
+statements::arms-loop-found-preserved t c =
+    let h0 = c.in_ok-one.ensures in
+    let h1 = c.in-Some.ensures in
+    record {
+      ahead = ahead_more _ c.loop-found.invariant.ahead c.in_ok-push.ensures.ok (list_more arms_form h0.only h1.token);
+      joins = joins_more (AreArms (toks_of c.args.cut.now)) _ _ _ _ _ _ c.loop-found.invariant.joins c.in_ok-push.ensures.ok (λ k rest h. more_arms h0.ok.derived h1.token h);
+      forward = omega arith;
+      level = level_more arm_levels _ _ _ _ c.loop-found.invariant.level c.in_ok-push.ensures.ok h0.ok.level;
+    }
+
+pub statements::arms-returns-in-None-clause-ok : goal.statements::arms-returns-in-None-clause-ok
+statements::arms-returns-in-None-clause-ok t c =
+    let h0 = c.in_ok-one.ensures in
+    record {
+      derived = joins_last (AreArms (toks_of c.args.cut.now)) _ _ _ _ _ _ c.loop-found.invariant.joins c.in_ok-push.ensures.ok (one_arm h0.ok.derived);
+      forward = omega arith;
+      within = omega arith;
+      level = level_more arm_levels _ _ _ _ c.loop-found.invariant.level c.in_ok-push.ensures.ok h0.ok.level;
+    }
+
+pub statements::arms-returns-in_err-one-clause-none : goal.statements::arms-returns-in_err-one-clause-none
+statements::arms-returns-in_err-one-clause-none t c = passes _ c.from_residual.ensures.1 (ahead_refutes _ c.loop-found.invariant.ahead (refutes_form arms_form (refutes_first c.in_err-one.ensures.none)))
+
+pub statements::arms-returns-in-None-clause-only : goal.statements::arms-returns-in-None-clause-only
+statements::arms-returns-in-None-clause-only t c = ahead_last _ c.loop-found.invariant.ahead c.in_ok-push.ensures.ok (list_last arms_form c.in_ok-one.ensures.only (λ next u. c.in-None.ensures.other u.there))
+
+pub statements::arm-returns-clause-ok : goal.statements::arm-returns-clause-ok
+statements::arm-returns-clause-ok t c = arm_found c.in_ok-test.ensures.ok c.in_ok-inside.ensures.token c.in_ok-inner.ensures.ok c.in_ok-body.ensures.ok
+
+pub statements::arm-returns-in_err-test-clause-none : goal.statements::arm-returns-in_err-test-clause-none
+statements::arm-returns-in_err-test-clause-none t c = passes _ c.from_residual.ensures.1 (refutes_form arm_form (refutes_first c.in_err-test.ensures.none))
+
+pub statements::arm-returns-in_err-inside-clause-none : goal.statements::arm-returns-in_err-inside-clause-none
+statements::arm-returns-in_err-inside-clause-none t c = passes _ c.from_residual-in_err-inside.ensures.1 (refutes_form arm_form (refutes_next c.in_ok-test.ensures.only (refutes_first c.in_err-inside.ensures.none)))
+
+pub statements::arm-returns-in_err-inner-clause-none : goal.statements::arm-returns-in_err-inner-clause-none
+statements::arm-returns-in_err-inner-clause-none t c = passes _ c.from_residual-in_err-inner.ensures.1 (refutes_form arm_form (refutes_next c.in_ok-test.ensures.only (refutes_next c.in_ok-inside.ensures.only (refutes_first c.in_err-inner.ensures.none))))
+
+pub statements::arm-returns-in_err-body-clause-none : goal.statements::arm-returns-in_err-body-clause-none
+statements::arm-returns-in_err-body-clause-none t c = passes _ c.from_residual-in_err-body.ensures.1 (refutes_form arm_form (refutes_next c.in_ok-test.ensures.only (refutes_next c.in_ok-inside.ensures.only (refutes_next c.in_ok-inner.ensures.only (refutes_first c.in_err-body.ensures.none)))))
+
+pub statements::arm-returns-clause-only : goal.statements::arm-returns-clause-only
+statements::arm-returns-clause-only t c = alone_form arm_form (alone_next c.in_ok-test.ensures.only (alone_next c.in_ok-inside.ensures.only (alone_next c.in_ok-inner.ensures.only (alone_next c.in_ok-body.ensures.only ((λ y h. h))))))
+
+pub statements::else_block-returns-clause-ok : goal.statements::else_block-returns-clause-ok
+statements::else_block-returns-clause-ok t c = else_found c.in-Some.ensures.token c.in_ok-inner.ensures.ok c.in_ok-body.ensures.ok
+
+pub statements::else_block-returns-in_default-clause-ok : goal.statements::else_block-returns-in_default-clause-ok
+statements::else_block-returns-in_default-clause-ok t c =
+    let r = c.requires in record { derived = no_else; forward = omega arith; within = omega arith; level = omega arith }
+
+pub statements::else_block-returns-in_err-inner-clause-none : goal.statements::else_block-returns-in_err-inner-clause-none
+statements::else_block-returns-in_err-inner-clause-none t c = passes _ c.from_residual.ensures.1 (refutes_form (else_form c.in-Some.ensures.token) (refutes_first c.in_err-inner.ensures.none))
+
+pub statements::else_block-returns-in_err-body-clause-none : goal.statements::else_block-returns-in_err-body-clause-none
+statements::else_block-returns-in_err-body-clause-none t c = passes _ c.from_residual-in_err-body.ensures.1 (refutes_form (else_form c.in-Some.ensures.token) (refutes_next c.in_ok-inner.ensures.only (refutes_first c.in_err-body.ensures.none)))
+
+pub statements::else_block-returns-clause-only : goal.statements::else_block-returns-clause-only
+statements::else_block-returns-clause-only t c = alone_form (else_form c.in-Some.ensures.token) (alone_next c.in_ok-inner.ensures.only (alone_next c.in_ok-body.ensures.only ((λ y h. h))))
+
+pub statements::function_stat-returns-clause-ok : goal.statements::function_stat-returns-clause-ok
+statements::function_stat-returns-clause-ok t c = function_stat_found c.requires.word c.in_ok-inner.ensures.ok c.in_ok-path.ensures.ok c.in_ok-method.ensures.ok c.in_ok-body.ensures.ok
+
+pub statements::function_stat-returns-in_err-inner-clause-none : goal.statements::function_stat-returns-in_err-inner-clause-none
+statements::function_stat-returns-in_err-inner-clause-none t c = passes _ c.from_residual.ensures.1 (refutes_first c.in_err-inner.ensures.none)
+
+pub statements::local_stat-returns-clause-ok : goal.statements::local_stat-returns-clause-ok
+statements::local_stat-returns-clause-ok t c = local_values_found c.requires.word c.in_ok-names.ensures.ok c.in-Some-eat.ensures.token c.in_ok-values.ensures.ok
+
+pub statements::local_stat-returns-in-Some-clause-ok : goal.statements::local_stat-returns-in-Some-clause-ok
+statements::local_stat-returns-in-Some-clause-ok t c = local_function_found c.requires.word c.in-Some.ensures.token c.in_ok-inside.ensures.token c.in_ok-inner.ensures.ok c.in_ok-body.ensures.ok
+
+pub statements::local_stat-returns-in_default-eat-clause-ok : goal.statements::local_stat-returns-in_default-eat-clause-ok
+statements::local_stat-returns-in_default-eat-clause-ok t c = local_found c.requires.word c.in_ok-names.ensures.ok c.new.ensures
+
+pub statements::local_stat-returns-in_err-inner-clause-none : goal.statements::local_stat-returns-in_err-inner-clause-none
+statements::local_stat-returns-in_err-inner-clause-none t c = passes _ c.from_residual.ensures.1 (refutes_form (λ y h. h.function _ c.in-Some.ensures.token) (refutes_first c.in_err-inner.ensures.none))
+
+pub statements::local_stat-returns-in_err-inside-clause-none : goal.statements::local_stat-returns-in_err-inside-clause-none
+statements::local_stat-returns-in_err-inside-clause-none t c = passes _ c.from_residual-in_err-inside.ensures.1 (refutes_form (λ y h. h.function _ c.in-Some.ensures.token) (refutes_next c.in_ok-inner.ensures.only (refutes_first c.in_err-inside.ensures.none)))
+
+pub statements::local_stat-returns-in_err-body-clause-none : goal.statements::local_stat-returns-in_err-body-clause-none
+statements::local_stat-returns-in_err-body-clause-none t c = passes _ c.from_residual-in_err-body.ensures.1 (refutes_form (λ y h. h.function _ c.in-Some.ensures.token) (refutes_next c.in_ok-inner.ensures.only (refutes_next c.in_ok-inside.ensures.only (refutes_first c.in_err-body.ensures.none))))
+
+pub statements::local_stat-returns-in-Some-clause-only : goal.statements::local_stat-returns-in-Some-clause-only
+statements::local_stat-returns-in-Some-clause-only t c = alone_form (λ y h. h.function _ c.in-Some.ensures.token) (alone_next c.in_ok-inner.ensures.only (alone_next c.in_ok-inside.ensures.only (alone_next c.in_ok-body.ensures.only ((λ y h. h)))))
+
+pub statements::local_stat-returns-in_err-values-clause-none : goal.statements::local_stat-returns-in_err-values-clause-none
+statements::local_stat-returns-in_err-values-clause-none t c = passes _ c.from_residual-in_err-values.ensures.1 (refutes_form (λ y h. h.named c.in_default.ensures.other) (refutes_next c.in_ok-names.ensures.only (refutes_form (λ y h. h.values _ c.in-Some-eat.ensures.token) (refutes_first c.in_err-values.ensures.none))))
+
+pub statements::local_stat-returns-clause-only : goal.statements::local_stat-returns-clause-only
+statements::local_stat-returns-clause-only t c = alone_form (λ y h. h.named c.in_default.ensures.other) (alone_next c.in_ok-names.ensures.only (alone_form (λ y h. h.values _ c.in-Some-eat.ensures.token) (alone_next c.in_ok-values.ensures.only (λ y h. h))))
+
+pub loops::for_stat-returns-clause-ok : goal.loops::for_stat-returns-clause-ok
+loops::for_stat-returns-clause-ok t c = for_in_found c.requires.word c.in_ok-names.ensures.ok c.in_ok-from.ensures.token c.in_ok-values.ensures.ok c.in_ok-inside.ensures.token c.in_ok-body.ensures.ok
+
+pub loops::for_stat-returns-in_err-body-clause-none : goal.loops::for_stat-returns-in_err-body-clause-none
+loops::for_stat-returns-in_err-body-clause-none t c = passes _ c.from_residual-in_err-body.ensures.1 (refutes_form (λ y h. h.names c.in_default.ensures.none) (refutes_next c.in_ok-names.ensures.only (refutes_next c.in_ok-from.ensures.only (refutes_next c.in_ok-values.ensures.only (refutes_next c.in_ok-inside.ensures.only (refutes_first c.in_err-body.ensures.none))))))
+
+pub loops::for_stat-returns-clause-only : goal.loops::for_stat-returns-clause-only
+loops::for_stat-returns-clause-only t c = alone_form (λ y h. h.names c.in_default.ensures.none) (alone_next c.in_ok-names.ensures.only (alone_next c.in_ok-from.ensures.only (alone_next c.in_ok-values.ensures.only (alone_next c.in_ok-inside.ensures.only (alone_next c.in_ok-body.ensures.only ((λ y h. h)))))))
+
+pub loops::count_stat-returns-clause-ok : goal.loops::count_stat-returns-clause-ok
+loops::count_stat-returns-clause-ok t c =
+    for_found c.requires.word c.requires.name.name c.requires.name.sign c.in_ok-first.ensures.ok c.in_ok-second.ensures.token c.in_ok-limit.ensures.ok c.in_ok-step.ensures.ok c.in_ok-inside.ensures.token c.in_ok-body.ensures.ok
 
 pub loops::count_stat-returns-in_err-inside-clause-none : goal.loops::count_stat-returns-in_err-inside-clause-none
 loops::count_stat-returns-in_err-inside-clause-none t c = passes _ c.from_residual-in_err-inside.ensures.1 (refutes_next c.in_ok-first.ensures.only (refutes_next c.in_ok-second.ensures.only (refutes_next c.in_ok-limit.ensures.only (refutes_next c.in_ok-step.ensures.only (refutes_first c.in_err-inside.ensures.none)))))
@@ -890,38 +715,69 @@ loops::count_stat-returns-in_err-body-clause-none t c = passes _ c.from_residual
 pub loops::count_stat-returns-clause-only : goal.loops::count_stat-returns-clause-only
 loops::count_stat-returns-clause-only t c = alone_next c.in_ok-first.ensures.only (alone_next c.in_ok-second.ensures.only (alone_next c.in_ok-limit.ensures.only (alone_next c.in_ok-step.ensures.only (alone_next c.in_ok-inside.ensures.only (alone_next c.in_ok-body.ensures.only ((λ y h. h)))))))
 
-pub tables::field-returns-in-Some-clause-only : goal.tables::field-returns-in-Some-clause-only
-tables::field-returns-in-Some-clause-only t c = ok_form _ (keyed_form c.in-Some.ensures.token) c.keyed.ensures.only
+pub loops::for_step-returns-clause-ok : goal.loops::for_step-returns-clause-ok
+loops::for_step-returns-clause-ok t c = for_step_found c.in-Some.ensures.token c.in_ok-step.ensures.ok
 
-pub tables::field-returns-in-Some-clause-none : goal.tables::field-returns-in-Some-clause-none
-tables::field-returns-in-Some-clause-none t c = err_form _ (keyed_form c.in-Some.ensures.token) c.keyed.ensures.none
+pub loops::for_step-returns-in_default-clause-ok : goal.loops::for_step-returns-in_default-clause-ok
+loops::for_step-returns-in_default-clause-ok t c =
+    let r = c.requires in record { derived = no_for_step; forward = omega arith; within = omega arith; level = omega arith }
 
-pub tables::field-returns-in_err-value-clause-none : goal.tables::field-returns-in_err-value-clause-none
-tables::field-returns-in_err-value-clause-none t c = passes _ c.from_residual.ensures.1 (refutes_form (named_form c.in-Some-assigned.ensures.some.name c.in-Some-assigned.ensures.some.sign) (refutes_first c.in_err-value.ensures.none))
+pub loops::for_step-returns-in_err-step-clause-none : goal.loops::for_step-returns-in_err-step-clause-none
+loops::for_step-returns-in_err-step-clause-none t c = passes _ c.from_residual.ensures.1 (refutes_form (for_step_form c.in-Some.ensures.token) (refutes_first c.in_err-step.ensures.none))
 
-pub tables::field-returns-in-Some-assigned-clause-only : goal.tables::field-returns-in-Some-assigned-clause-only
-tables::field-returns-in-Some-assigned-clause-only t c = alone_form (named_form c.in-Some-assigned.ensures.some.name c.in-Some-assigned.ensures.some.sign) (alone_next c.in_ok-value.ensures.only ((λ y h. h)))
+pub loops::for_step-returns-clause-only : goal.loops::for_step-returns-clause-only
+loops::for_step-returns-clause-only t c = alone_form (for_step_form c.in-Some.ensures.token) (alone_next c.in_ok-step.ensures.only ((λ y h. h)))
 
-pub tables::field-returns-in_err-value-2-clause-none : goal.tables::field-returns-in_err-value-2-clause-none
-tables::field-returns-in_err-value-2-clause-none t c = passes _ c.from_residual-in_err-value-2.ensures.1 (refutes_form (item_form c.in_default.ensures.other c.in_default-assigned.ensures.none) (refutes_first c.in_err-value-2.ensures.none))
+pub assignments::expr_stat-returns-in-Call-clause-ok : goal.assignments::expr_stat-returns-in-Call-clause-ok
+assignments::expr_stat-returns-in-Call-clause-ok t c = call_shaped c.in_ok-first.first.shape c.in-Call.is c.in_ok-first.ensures.ok c.in_ok-first.ensures.closed
 
-pub tables::field-returns-clause-only : goal.tables::field-returns-clause-only
-tables::field-returns-clause-only t c = alone_form (item_form c.in_default.ensures.other c.in_default-assigned.ensures.none) (alone_next c.in_ok-value-2.ensures.only ((λ y h. h)))
+pub assignments::assign-returns-clause-ok : goal.assignments::assign-returns-clause-ok
+assignments::assign-returns-clause-ok t c = assign_found c.in_ok-targets.ensures.ok c.in_ok-from.ensures.token c.in_ok-values.ensures.ok
 
-pub loops::for_stat-returns-in_err-body-clause-none : goal.loops::for_stat-returns-in_err-body-clause-none
-loops::for_stat-returns-in_err-body-clause-none t c = passes _ c.from_residual-in_err-body.ensures.1 (refutes_form (λ y h. h.names c.in_default.ensures.none) (refutes_next c.in_ok-names.ensures.only (refutes_next c.in_ok-from.ensures.only (refutes_next c.in_ok-values.ensures.only (refutes_next c.in_ok-inside.ensures.only (refutes_first c.in_err-body.ensures.none))))))
+pub assignments::assign-returns-in_err-targets-clause-none : goal.assignments::assign-returns-in_err-targets-clause-none
+assignments::assign-returns-in_err-targets-clause-none t c = passes _ c.from_residual.ensures.1 (refutes_first c.in_err-targets.ensures.none)
 
-pub loops::for_stat-returns-clause-only : goal.loops::for_stat-returns-clause-only
-loops::for_stat-returns-clause-only t c = alone_form (λ y h. h.names c.in_default.ensures.none) (alone_next c.in_ok-names.ensures.only (alone_next c.in_ok-from.ensures.only (alone_next c.in_ok-values.ensures.only (alone_next c.in_ok-inside.ensures.only (alone_next c.in_ok-body.ensures.only ((λ y h. h)))))))
+pub assignments::assign-returns-in_err-from-clause-none : goal.assignments::assign-returns-in_err-from-clause-none
+assignments::assign-returns-in_err-from-clause-none t c = passes _ c.from_residual-in_err-from.ensures.1 (refutes_next c.in_ok-targets.ensures.only (refutes_first c.in_err-from.ensures.none))
 
-pub blocks::last-returns-in_err-next-clause-none : goal.blocks::last-returns-in_err-next-clause-none
-blocks::last-returns-in_err-next-clause-none t c = passes _ c.from_residual.ensures.1 (refutes_form return_form (refutes_first c.in_err-next.ensures.none))
+pub assignments::assign-returns-in_err-values-clause-none : goal.assignments::assign-returns-in_err-values-clause-none
+assignments::assign-returns-in_err-values-clause-none t c = passes _ c.from_residual-in_err-values.ensures.1 (refutes_next c.in_ok-targets.ensures.only (refutes_next c.in_ok-from.ensures.only (refutes_first c.in_err-values.ensures.none)))
 
-pub blocks::last-returns-then-ends_return-clause-only : goal.blocks::last-returns-then-ends_return-clause-only
-blocks::last-returns-then-ends_return-clause-only t c = alone_form return_form (alone_next c.in_ok-next.ensures.only (alone_form (λ y h. h.empty (sym c.ends_return.ensures ∙ c.if-ends_return.true)) (alone_next c.semicolon.ensures.only (alone_is (ap (λ es. statement c.args.at c.semicolon.result (stat.Return es)) (sym c.new.ensures))))))
+pub assignments::assign-returns-clause-only : goal.assignments::assign-returns-clause-only
+assignments::assign-returns-clause-only t c = alone_next c.in_ok-targets.ensures.only (alone_next c.in_ok-from.ensures.only (alone_next c.in_ok-values.ensures.only ((λ y h. h))))
 
-pub blocks::last-returns-in_err-values-clause-none : goal.blocks::last-returns-in_err-values-clause-none
-blocks::last-returns-in_err-values-clause-none t c = passes _ c.from_residual-in_err-values.ensures.1 (refutes_form return_form (refutes_next c.in_ok-next.ensures.only (refutes_form (λ y h. h.values (sym c.ends_return.ensures ∙ c.if-ends_return.false)) (refutes_first c.in_err-values.ensures.none))))
+pub assignments::targets-loop-found-preserved : goal.assignments::targets-loop-found-preserved
+assignments::targets-loop-found-preserved t c =
+    let h0 = c.in-Some.ensures in
+    let h1 = c.in_ok-one.ensures in
+    record {
+      ahead = ahead_more _ c.loop-found.invariant.ahead c.in_ok-push.ensures.ok (λ r q. then_rest h1.only (targets_form h0.token r q));
+      joins = joins_more (AreTargets (toks_of c.args.cut.now)) _ _ _ _ _ _ c.loop-found.invariant.joins c.in_ok-push.ensures.ok (λ k rest h. more_targets c.loop-found.invariant.one.derived h0.token h);
+      one = h1.ok;
+      forward = omega arith;
+      level = level_more expr_levels _ _ _ _ c.loop-found.invariant.level c.in_ok-push.ensures.ok c.loop-found.invariant.one.level;
+    }
 
-pub blocks::last-returns-clause-only : goal.blocks::last-returns-clause-only
-blocks::last-returns-clause-only t c = alone_form return_form (alone_next c.in_ok-next.ensures.only (alone_form (λ y h. h.values (sym c.ends_return.ensures ∙ c.if-ends_return.false)) (alone_next c.in_ok-values.ensures.only (alone_next c.semicolon-2.ensures.only (λ y h. h)))))
+pub assignments::targets-returns-in_default-clause-ok : goal.assignments::targets-returns-in_default-clause-ok
+assignments::targets-returns-in_default-clause-ok t c =
+    record {
+      derived = joins_last (AreTargets (toks_of c.args.cut.now)) _ _ _ _ _ _ c.loop-found.invariant.joins c.in_ok-push.ensures.ok (one_target c.loop-found.invariant.one.derived);
+      forward = omega arith;
+      within = omega arith;
+      level = level_more expr_levels _ _ _ _ c.loop-found.invariant.level c.in_ok-push.ensures.ok c.loop-found.invariant.one.level;
+    }
+
+pub assignments::targets-returns-in_default-clause-only : goal.assignments::targets-returns-in_default-clause-only
+assignments::targets-returns-in_default-clause-only t c = ahead_last _ c.loop-found.invariant.ahead c.in_ok-push.ensures.ok (targets_last c.in_default.ensures.other)
+
+pub assignments::targets-returns-in_err-one-clause-none : goal.assignments::targets-returns-in_err-one-clause-none
+assignments::targets-returns-in_err-one-clause-none t c = passes _ c.from_residual-in_err-one.ensures.1 (ahead_refutes _ c.loop-found.invariant.ahead (refutes_form (targets_form c.in-Some.ensures.token) (refutes_first c.in_err-one.ensures.none)))
+
+pub assignments::variable-returns-in_err-prefix-clause-none : goal.assignments::variable-returns-in_err-prefix-clause-none
+assignments::variable-returns-in_err-prefix-clause-none t c = passes _ c.from_residual.ensures.1 (refutes_by (λ y h. (record { shape = Variable; expr = y }, variable_prefix y h)) c.in_err-prefix.ensures.none)
+
+pub assignments::variable-returns-in-Variable-clause-only : goal.assignments::variable-returns-in-Variable-clause-only
+assignments::variable-returns-in-Variable-clause-only t c = λ y h. ap (λ (p : PrefixExpr). p.expr) (c.in_ok-prefix.ensures.only (record { shape = Variable; expr = y }) (variable_prefix y h))
+
+pub assignments::variable-returns-in_default : goal.assignments::variable-returns-in_default
+assignments::variable-returns-in_default t c = record { ok = tt; only = tt; err = c.refusal.ensures; none = record { nothing = λ known y h. let e = c.in_ok-prefix.ensures.only (record { shape = Variable; expr = y }) (variable_prefix y h) in c.in_default.not-Variable (ap (λ (p : PrefixExpr). p.shape) (sym e)) } }
