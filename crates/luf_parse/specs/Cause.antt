@@ -11,7 +11,8 @@ use Rattle.luf_parse.specs.declared.error.ParseErr.TheVariants.{Syntax, TooDeep,
 abbrev pub HasNoTree : List Tok → Type 0
 HasNoTree toks = (chunk : Chunk) → IsChunk toks chunk → depth_of chunk ≤ 200 → ⊥
 
--- The cause of an error. The token is one of the list, or the end.
+-- The cause of an error. The token is one of the list, or the end. Which of the two words is answered, and at which
+-- token, is not said here.
 abbrev pub IsCause : List Tok → ParseErr → Type 0
 IsCause toks (Syntax token) = (token ≤ length toks) × HasNoTree toks
 IsCause toks (TooDeep token) = (token ≤ length toks) × HasNoTree toks

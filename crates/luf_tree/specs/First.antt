@@ -31,7 +31,7 @@ token_starts_stat (tok.Word w) = word_starts_stat w
 token_starts_stat (tok.Sign s) = sign_starts_stat s
 token_starts_stat _ = false
 
--- A statement begins with `;`, `::`, `(`, a name, or one of `break` `do` `for` `function` `goto` `if` `local`
+-- A statement other than `return` begins with `;`, `::`, `(`, a name, or one of `break` `do` `for` `function` `goto` `if` `local`
 -- `repeat` `while`. The end of the tokens begins none.
 abbrev pub starts_stat : Option Tok → Bool
 starts_stat None = false

@@ -2,9 +2,10 @@
 -- says that the tokens from one place to another, which is excluded, form a part of the tree.
 --
 -- The manual leaves two things to its text, and here they are part of the grammar. Precedence (3.4.8): an
--- expression has a level, and operands of one level stand in one chain. And "a `(` that can continue a call
--- continues it" (3.3.1): no `(` follows a prefix expression that is whole. So of two statements the first does
--- not end in a prefix expression where the second begins with `(`.
+-- expression has a level, from 1 on, and operands of one level stand in one chain; `IsExpr toks 1` is any
+-- expression. And a `(` that can continue a call continues it (after 3.3.1): no `(` follows a prefix expression
+-- that is whole (`IsClosed`). So of two statements the first does not end in a prefix expression where the second
+-- begins with `(`.
 use Rattle.std.specs.Prelude.{◌≡◌, ℕ, ◌+◌, ◌<◌, ◌≤◌, ◌⊎◌, Bool, true, false, Option, Some, None, List, [], ◌∷◌, length, slice_get}
 use Rattle.luf_lex.specs.declared.token.Tok.{Tok}
 use Rattle.luf_lex.specs.declared.token.Tok.TheVariants.{Name, Number, Short, Long, Word, Sign}
@@ -42,7 +43,7 @@ pub record IsToken (toks : List Tok) (i : ℕ) (tok : Tok) (j : ℕ) : Type 0 wh
 abbrev pub IsString : List Tok → ℕ → ℕ → Type 0
 IsString toks i j = IsToken toks i Short j ⊎ IsToken toks i Long j
 
--- no `(` stands there
+-- no `(` stands there, which would continue a prefix expression that ends before it
 abbrev pub IsClosed : List Tok → ℕ → Type 0
 IsClosed toks i = At toks i (Sign sign.LeftParen) → ⊥
 
@@ -114,7 +115,7 @@ mutual
         → IsOperand toks i l (expression i l (expr.Power base j exponent))
     simple_operand : {i j : ℕ} {e : Expr} → IsSimple toks i j e → IsOperand toks i j e
 
-  -- 'nil' | 'false' | 'true' | Numeral | String | '...' | 'function' body | prefix | table
+  -- 'nil' | 'false' | 'true' | Numeral | String | '...' | 'function' body | prefix | table; a prefix is as long as calls go on
   pub data IsSimple (toks : List Tok) : ℕ → ℕ → Expr → Type 0 where
     nil_simple : {i j : ℕ} → IsToken toks i (Word word.Nil) j → IsSimple toks i j (expression i j expr.Nil)
     true_simple : {i j : ℕ} → IsToken toks i (Word word.True) j → IsSimple toks i j (expression i j expr.True)

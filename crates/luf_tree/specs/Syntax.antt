@@ -32,7 +32,7 @@ mutual
     chain : (from to : ℕ) (first : Expression) (rest : Operations) → Expression
     -- exp ^ exp
     power : (from to : ℕ) (base : Expression) (sign : ℕ) (exponent : Expression) → Expression
-    -- Name {suffix}, ( exp ) {suffix}
+    -- Name suffix {suffix}, ( exp ) suffix {suffix}
     suffixed : (from to : ℕ) (head : Expression) (suffixes : Suffixes) → Expression
 
   -- [exp]

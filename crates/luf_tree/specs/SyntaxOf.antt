@@ -119,7 +119,7 @@ statement_layer s = s.what s.from s.to
 abbrev pub operation_layer : Layer Step-F → syntax.Operation
 operation_layer s = syntax.operation s.sign s.right
 
--- ---- the syntax of each part
+-- ---- the syntax of each part: one fold, from each type of the tree on
 
 abbrev pub syntax_of_expr : Expr → syntax.Expression
 syntax_of_expr = fold-Expr (ℕ → ℕ → syntax.Expression) syntax.Field (ℕ → ℕ → syntax.Statement) syntax.Suffix syntax.Arguments syntax.Arm syntax.Block syntax.Expression syntax.FunctionBody syntax.Statement syntax.Operation expression_kind field_kind statement_kind suffix_kind arguments_layer arm_layer block_layer expression_layer body_layer statement_layer operation_layer
