@@ -20,7 +20,7 @@ LUAC = ["luac5.4", "-o", "-", "-"]
 OWN_LIMITS = ("TooLarge", "TooDeep", "ResultTooLarge")
 # What luac refuses that the grammar does not, by its messages in lparser.c, lcode.c, ldo.c and lstate.c.
 NOT_GRAMMAR = re.compile(
-    "break outside a loop|no visible label|jumps into the scope|label '.*' already defined|cannot use '...' outside"
+    "break outside|no visible label|jumps into the scope|label '.*' already defined|cannot use '...' outside"
     "|attempt to assign to const|unknown attribute|multiple to-be-closed|too many |C stack overflow"
     "|chunk has too many|control structure too long|constants? overflow"
 )

@@ -11,16 +11,16 @@ set -euo pipefail
 cd "$(dirname "$0")"
 corpus="${TMPDIR:-/tmp}/luafmt-real"
 packages=(
-    awesome awesome-extra conky-all context darktable devilspie2 enigma-data freeciv-data freeciv-server hedgewars-data
-    knot-resolver libquvi-scripts-0.9 lmod lua-any lua-argparse lua-basexx lua-busted lua-check lua-cliargs lua-compat53
+    awesome awesome-extra conky-all context darktable enigma-data freeciv-data freeciv-server hedgewars-data
+    knot-resolver libquvi-scripts-0.9 lmod lua-argparse lua-basexx lua-busted lua-check lua-cliargs lua-compat53
     lua-copas lua-cosmo lua-cqueues lua-dkjson lua-http lua-inifile lua-inspect lua-json lua-ldoc lua-leg lua-lemock lua-lgi
-    lua-ljsyscall lua-logging lua-lpeg lua-lpeg-dev lua-lpeg-patterns lua-luassert lua-luv lua-markdown lua-mediator
+    lua-ljsyscall lua-logging lua-lpeg lua-lpeg-patterns lua-luassert lua-markdown lua-mediator
     lua-messagepack lua-moses lua-nginx-cookie lua-nginx-dns lua-nginx-kafka lua-nginx-memcached lua-nginx-redis
     lua-nginx-redis-connector lua-nginx-string lua-nginx-websocket lua-nvim lua-orbit lua-penlight lua-posix lua-redis
     lua-resty-core lua-resty-lrucache lua-rings lua-say lua-sec lua-soap lua-socket lua-socket-dev lua-unit lua-uri lua-wsapi
     lua-xmlrpc luakit luarocks minetest-data minetest-mod-3d-armor minetest-mod-ethereal minetest-mod-homedecor
     minetest-mod-mesecons minetest-mod-mobs-redo minetest-mod-pipeworks minetest-mod-worldedit minetest-mod-xdecor naev-data
-    neovim-runtime nmap-common prosody prosody-modules rspamd scite texlive-luatex vis vlc-data vlc-plugin-base
+    neovim-runtime nmap-common prosody prosody-modules rspamd scite texlive-luatex vis vlc-data
     wesnoth-1.16-data widelands-data
 )
 
