@@ -1,12 +1,13 @@
 """What the measurements share: the programs, their seconds and their memory."""
 import os
 import shutil
+import statistics
 import subprocess
 import sys
 
 MIB = 1 << 20
 SIZES = [MIB // 2, MIB, 2 * MIB, 4 * MIB]
-RUNS = 3
+RUNS = 5
 TIME = "/usr/bin/time"
 LUAFMT = [sys.argv[1], "minify"]
 LUAC = ["luac5.4", "-p", "-"] if shutil.which("luac5.4") else None
@@ -14,8 +15,8 @@ ROW = "{:>8} {:>8} {:>9} {:>9} {:>9} {:>7} {:>7} {:>7} {:>7}".format
 
 
 def seconds(command, source, status_wanted=0):
-    """The least processor time of a few runs, each of which has to end with this status."""
-    best = None
+    """The median of the processor time of a few runs, each of which has to end with this status."""
+    times = []
     for _ in range(RUNS):
         with open(source) as stdin:
             child = subprocess.Popen(command, stdin=stdin, stdout=subprocess.DEVNULL, stderr=subprocess.DEVNULL)
@@ -23,9 +24,8 @@ def seconds(command, source, status_wanted=0):
         child.returncode = os.waitstatus_to_exitcode(status)
         if child.returncode != status_wanted:
             sys.exit(f"{' '.join(command)}: status {child.returncode}")
-        time = used.ru_utime + used.ru_stime
-        best = time if best is None else min(best, time)
-    return best
+        times.append(used.ru_utime + used.ru_stime)
+    return statistics.median(times)
 
 
 def peak_bytes(command, source):
@@ -40,13 +40,13 @@ def cell(value, digits=1):
     return "-" if value is None else f"{value:.{digits}f}"
 
 
-def print_head(most_of_luac):
+def print_head():
     if not LUAC:
         print("luac5.4 is not installed: its columns are left out")
     if not os.path.exists(TIME):
         print(f"{TIME} is not installed: the memory column is left out")
     print(ROW("bytes", "shape", "luafmt s", "luac s", "cat s", "/luac", "/cat", "growth", "memory"))
-    print(ROW("", "", "", "", "", f"<= {most_of_luac}", "", "2", "<= 40"))
+    print(ROW("", "", "", "", "", "<= 2.5", "", "2", "<= 100"))
 
 
 def print_row(shape, source, for_luac, before, status_wanted=0):

@@ -11,7 +11,7 @@ set -euo pipefail
 cd "$(dirname "$0")"
 corpus="${TMPDIR:-/tmp}/luafmt-real"
 packages=(
-    awesome awesome-extra conky-all context darktable enigma-data freeciv-data freeciv-server hedgewars-data
+    awesome awesome-extra conky-all context darktable enigma-data freeciv-data freeciv-server
     knot-resolver libquvi-scripts-0.9 lmod lua-argparse lua-basexx lua-busted lua-check lua-cliargs lua-compat53
     lua-copas lua-cosmo lua-cqueues lua-dkjson lua-http lua-inifile lua-inspect lua-json lua-ldoc lua-leg lua-lemock lua-lgi
     lua-ljsyscall lua-logging lua-lpeg lua-lpeg-patterns lua-luassert lua-markdown lua-mediator
@@ -19,9 +19,9 @@ packages=(
     lua-nginx-redis-connector lua-nginx-string lua-nginx-websocket lua-nvim lua-orbit lua-penlight lua-posix lua-redis
     lua-resty-core lua-resty-lrucache lua-rings lua-say lua-sec lua-soap lua-socket lua-socket-dev lua-unit lua-uri lua-wsapi
     lua-xmlrpc luakit luarocks minetest-data minetest-mod-3d-armor minetest-mod-ethereal minetest-mod-homedecor
-    minetest-mod-mesecons minetest-mod-mobs-redo minetest-mod-pipeworks minetest-mod-worldedit minetest-mod-xdecor naev-data
+    minetest-mod-mesecons minetest-mod-mobs-redo minetest-mod-pipeworks minetest-mod-worldedit minetest-mod-xdecor
     neovim-runtime nmap-common prosody prosody-modules rspamd scite texlive-luatex vis vlc-data
-    wesnoth-1.16-data widelands-data
+    wesnoth-1.16-data
 )
 
 for program in apt-get apt-cache dpkg-deb luac5.4; do
