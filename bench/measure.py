@@ -7,7 +7,7 @@ import sys
 
 MIB = 1 << 20
 SIZES = [MIB // 2, MIB, 2 * MIB, 4 * MIB]
-RUNS = 5
+RUNS = 7
 TIME = "/usr/bin/time"
 LUAFMT = [sys.argv[1], "minify"]
 LUAC = ["luac5.4", "-p", "-"] if shutil.which("luac5.4") else None
@@ -15,17 +15,20 @@ ROW = "{:>8} {:>8} {:>9} {:>9} {:>9} {:>7} {:>7} {:>7} {:>7}".format
 
 
 def seconds(command, source, status_wanted=0):
-    """The median of the processor time of a few runs, each of which has to end with this status."""
-    times = []
-    for _ in range(RUNS):
-        with open(source) as stdin:
-            child = subprocess.Popen(command, stdin=stdin, stdout=subprocess.DEVNULL, stderr=subprocess.DEVNULL)
-            _, status, used = os.wait4(child.pid, 0)
-        child.returncode = os.waitstatus_to_exitcode(status)
-        if child.returncode != status_wanted:
-            sys.exit(f"{' '.join(command)}: status {child.returncode}")
-        times.append(used.ru_utime + used.ru_stime)
-    return statistics.median(times)
+    """The processor time of one run, which has to end with this status."""
+    with open(source) as stdin:
+        child = subprocess.Popen(command, stdin=stdin, stdout=subprocess.DEVNULL, stderr=subprocess.DEVNULL)
+        _, status, used = os.wait4(child.pid, 0)
+    child.returncode = os.waitstatus_to_exitcode(status)
+    if child.returncode != status_wanted:
+        sys.exit(f"{' '.join(command)}: status {child.returncode}")
+    return used.ru_utime + used.ru_stime
+
+
+def medians(jobs):
+    """The median seconds of each job. The jobs take turns, so that other work on the machine slows each of them alike."""
+    rounds = [[seconds(*job) for job in jobs] for _ in range(RUNS)]
+    return [statistics.median(times) for times in zip(*rounds)]
 
 
 def peak_bytes(command, source):
@@ -52,9 +55,8 @@ def print_head():
 def print_row(shape, source, for_luac, before, status_wanted=0):
     """Measures the programs on a source, and prints their row. The seconds of luafmt come back."""
     size = os.path.getsize(source)
-    luafmt = seconds(LUAFMT, source, status_wanted)
-    cat = seconds(["cat"], source)
-    luac = seconds(LUAC, for_luac) if LUAC else None
+    jobs = [(LUAFMT, source, status_wanted), (["cat"], source)] + ([(LUAC, for_luac)] if LUAC else [])
+    luafmt, cat, luac = (medians(jobs) + [None])[:3]
     memory = peak_bytes(LUAFMT, source) / size if os.path.exists(TIME) else None
     print(ROW(
         size, shape, cell(luafmt, 4), cell(luac, 4), cell(cat, 4),
