@@ -4,7 +4,7 @@ A source is statements of one shape: "tight" is `local NAME = VALUE` with single
 for each of them and runs of 24 blanks. "assign" and "empty" are the shortest statements that there are, `a=1` and `;`,
 which take the most memory for each byte. Lua allows 200 local variables at a time, and 32,767 in a function, so what
 luac5.4 reads has each 100 of the same statements in `do .. end`, and each 30,000 in a function. That adds a percent at
-most, but 8 for "empty".
+most, but 7 for "empty".
 """
 import tempfile
 

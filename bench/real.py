@@ -37,7 +37,7 @@ def cause(message):
     return re.sub(r"(at )?line \d+", "line", re.sub(r"^stdin:\d+: ", "", message))
 
 
-def compare_refusal(luac, text, minified):
+def compare_refusal(luac, minified):
     """luac refuses, and luafmt has this answer."""
     why = cause(luac.stderr)
     if not NOT_GRAMMAR.search(why):
@@ -64,7 +64,7 @@ def compare(path):
     if minified.returncode == 0 and run(LUAFMT, minified.stdout).stdout != minified.stdout:
         return "DIFFERENCE", "minified twice it is another text"
     if luac.returncode != 0:
-        return compare_refusal(luac, text, minified)
+        return compare_refusal(luac, minified)
     if minified.returncode == 3:
         refusal = minified.stderr.decode().strip()
         limit = refusal.endswith(OWN_LIMITS)
