@@ -1,13 +1,18 @@
-"""`luafmt minify` on sources of the whole lexis.
+"""`luafmt minify` on sources of the whole language.
 
-"ordinary" is made Lua of functions, loops, calls, tables, strings and comments; "string" and "comment" are one long string
-and one long comment; "escapes" is short strings full of escapes.
+"ordinary" is made Lua of functions, loops, calls, tables, strings and comments; "real" is files that real.sh has fetched,
+each in a function, and is left out where there are none; "string" and "comment" are one long string and one long comment;
+"escapes" is short strings full of escapes.
 """
+import glob
+import os
 import random
+import subprocess
 import tempfile
 
-from measure import SIZES, print_head, print_row
+from measure import LUAC, SIZES, print_head, print_row
 
+CORPUS = os.path.join(os.environ.get("TMPDIR", "/tmp"), "luafmt-real")
 ESCAPES = ["\\n", "\\t", "\\065", "\\x41", "\\u{20AC}", "\\\\", "\\\"", "\\z  ", "text"]
 
 
@@ -31,6 +36,28 @@ def ordinary_function(number, dice):
     return "\n".join(lines)
 
 
+def real_functions():
+    """Real files, each as the body of a function in a block, so that no two share their local variables."""
+    paths = sorted(path for path in glob.glob(CORPUS + "/**/*.lua", recursive=True) if os.path.isfile(path))
+    random.Random(54).shuffle(paths)
+    for path in paths:
+        with open(path, encoding="latin-1", newline="") as file:
+            text = f"do local function read(...)\n{file.read()}\nend end\n"
+        if not subprocess.run(LUAC, input=text.encode("latin-1"), capture_output=True).returncode:
+            yield text
+
+
+def joined(texts, size):
+    parts, written = [], 0
+    for text in texts:
+        if written + len(text) <= size:
+            parts.append(text)
+            written += len(text)
+        if written > size * 0.99:
+            break
+    return "".join(parts)
+
+
 def repeated(make, size):
     parts, written = [], 0
     while True:
@@ -45,6 +72,8 @@ def text_of(shape, size):
     dice = random.Random(54)
     if shape == "ordinary":
         return repeated(lambda number: ordinary_function(number, dice), size)
+    if shape == "real":
+        return joined(real_functions(), size)
     if shape == "string":
         return "s = [==[" + repeated(lambda _: "a line of a long string ]] with brackets\n", size - 100) + "]==]\n"
     if shape == "comment":
@@ -53,13 +82,14 @@ def text_of(shape, size):
 
 
 def main():
-    print_head(3)
+    print_head()
     with tempfile.TemporaryDirectory() as folder:
         source = f"{folder}/source.lua"
-        for shape in ["ordinary", "string", "comment", "escapes"]:
+        real = ["real"] if LUAC and os.path.isdir(CORPUS) else []
+        for shape in ["ordinary", *real, "string", "comment", "escapes"]:
             before = None
             for size in SIZES:
-                with open(source, "w", newline="") as file:
+                with open(source, "w", encoding="latin-1", newline="") as file:
                     file.write(text_of(shape, size))
                 before = print_row(shape, source, source, before)
 

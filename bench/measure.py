@@ -1,12 +1,13 @@
 """What the measurements share: the programs, their seconds and their memory."""
 import os
 import shutil
+import statistics
 import subprocess
 import sys
 
 MIB = 1 << 20
 SIZES = [MIB // 2, MIB, 2 * MIB, 4 * MIB]
-RUNS = 3
+RUNS = 7
 TIME = "/usr/bin/time"
 LUAFMT = [sys.argv[1], "minify"]
 LUAC = ["luac5.4", "-p", "-"] if shutil.which("luac5.4") else None
@@ -14,18 +15,20 @@ ROW = "{:>8} {:>8} {:>9} {:>9} {:>9} {:>7} {:>7} {:>7} {:>7}".format
 
 
 def seconds(command, source, status_wanted=0):
-    """The least processor time of a few runs, each of which has to end with this status."""
-    best = None
-    for _ in range(RUNS):
-        with open(source) as stdin:
-            child = subprocess.Popen(command, stdin=stdin, stdout=subprocess.DEVNULL, stderr=subprocess.DEVNULL)
-            _, status, used = os.wait4(child.pid, 0)
-        child.returncode = os.waitstatus_to_exitcode(status)
-        if child.returncode != status_wanted:
-            sys.exit(f"{' '.join(command)}: status {child.returncode}")
-        time = used.ru_utime + used.ru_stime
-        best = time if best is None else min(best, time)
-    return best
+    """The processor time of one run, which has to end with this status."""
+    with open(source) as stdin:
+        child = subprocess.Popen(command, stdin=stdin, stdout=subprocess.DEVNULL, stderr=subprocess.DEVNULL)
+        _, status, used = os.wait4(child.pid, 0)
+    child.returncode = os.waitstatus_to_exitcode(status)
+    if child.returncode != status_wanted:
+        sys.exit(f"{' '.join(command)}: status {child.returncode}")
+    return used.ru_utime + used.ru_stime
+
+
+def medians(jobs):
+    """The median seconds of each job. The jobs take turns, so that other work on the machine slows each of them alike."""
+    rounds = [[seconds(*job) for job in jobs] for _ in range(RUNS)]
+    return [statistics.median(times) for times in zip(*rounds)]
 
 
 def peak_bytes(command, source):
@@ -40,21 +43,20 @@ def cell(value, digits=1):
     return "-" if value is None else f"{value:.{digits}f}"
 
 
-def print_head(most_of_luac):
+def print_head():
     if not LUAC:
         print("luac5.4 is not installed: its columns are left out")
     if not os.path.exists(TIME):
         print(f"{TIME} is not installed: the memory column is left out")
     print(ROW("bytes", "shape", "luafmt s", "luac s", "cat s", "/luac", "/cat", "growth", "memory"))
-    print(ROW("", "", "", "", "", f"<= {most_of_luac}", "", "2", "<= 40"))
+    print(ROW("", "", "", "", "", "<= 2.5", "", "2", "<= 100"))
 
 
 def print_row(shape, source, for_luac, before, status_wanted=0):
     """Measures the programs on a source, and prints their row. The seconds of luafmt come back."""
     size = os.path.getsize(source)
-    luafmt = seconds(LUAFMT, source, status_wanted)
-    cat = seconds(["cat"], source)
-    luac = seconds(LUAC, for_luac) if LUAC else None
+    jobs = [(LUAFMT, source, status_wanted), (["cat"], source)] + ([(LUAC, for_luac)] if LUAC else [])
+    luafmt, cat, luac = (medians(jobs) + [None])[:3]
     memory = peak_bytes(LUAFMT, source) / size if os.path.exists(TIME) else None
     print(ROW(
         size, shape, cell(luafmt, 4), cell(luac, 4), cell(cat, 4),

@@ -1,9 +1,10 @@
-"""`luafmt minify` on `local` statements, which have the most tokens for each byte.
+"""`luafmt minify` on small statements, which have the most tokens for each byte.
 
-A source is statements `local NAME = VALUE`, in three shapes: "tight" has single spaces and one line, "wide" a line for
-each statement and runs of 24 blanks, and "dense" the shortest statements that there are, which take the most memory for
-each byte. Lua allows 200 local variables at a time, and 32,767 in a function, so what luac5.4 reads has each 100 of the
-same statements in `do .. end`, and each 30,000 in a function. That adds a percent at most.
+A source is statements of one shape: "tight" is `local NAME = VALUE` with single spaces and in one line, "wide" has a line
+for each of them and runs of 24 blanks. "assign" and "empty" are the shortest statements that there are, `a=1` and `;`,
+which take the most memory for each byte. Lua allows 200 local variables at a time, and 32,767 in a function, so what
+luac5.4 reads has each 100 of the same statements in `do .. end`, and each 30,000 in a function. That adds a percent at
+most, but 7 for "empty".
 """
 import tempfile
 
@@ -11,7 +12,7 @@ from measure import SIZES, print_head, print_row
 
 TIGHT = "local {name} = {value} "
 WIDE = TIGHT.strip().replace(" ", " " * 24) + "\n"
-SHAPES = {"tight": TIGHT, "wide": WIDE, "dense": "local a=1 "}
+SHAPES = {"tight": TIGHT, "wide": WIDE, "assign": "a=1 ", "empty": ";"}
 VALUES = ["123", "a7", "nil", "true", "false"]
 
 
@@ -37,7 +38,7 @@ def write_sources(size, shape, plain, grouped):
 
 
 def main():
-    print_head(3)
+    print_head()
     with tempfile.TemporaryDirectory() as folder:
         plain, grouped = f"{folder}/plain.lua", f"{folder}/grouped.lua"
         for shape in SHAPES:

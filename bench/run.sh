@@ -5,12 +5,13 @@
 #
 # It proves and builds luafmt first (`rt run`: minutes in a new checkout, else a second), makes its sources of 0.5, 1, 2
 # and 4 MiB in a temporary directory, and prints two tables, each with its targets in the second line: minify.py takes
-# `local` statements, lexis.py the whole lexis. It is no test: its status is 0 whatever the numbers are. It needs
-# rt and python3; luac5.4 and /usr/bin/time are left out where they are missing. It needs no network.
+# small statements, lexis.py the whole language. It is no test: its status is 0 whatever the numbers are. It needs
+# rt and python3; luac5.4 and /usr/bin/time are left out where they are missing, and so are real files where real.sh has
+# fetched none. It needs no network.
 #
-# Seconds are of the processor (user and system), the best of 3 runs, with output to /dev/null. So other work on the machine
-# changes little; still read the ratios, and no time by itself. /luac and /cat are luafmt's seconds over theirs, growth its
-# seconds over those at half the size, memory its peak in bytes for each byte of source.
+# Seconds are of the processor (user and system), the median of 7 runs that take turns, with output to /dev/null. Other work
+# on the machine still changes them by half: read the ratios, and no time by itself. /luac and /cat are luafmt's seconds over
+# theirs, growth its seconds over those at half the size, memory its peak in bytes for each byte of source.
 set -euo pipefail
 cd "$(dirname "$0")"
 (cd ../crates/luafmt && rt run -- minify </dev/null >/dev/null)

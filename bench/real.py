@@ -1,0 +1,102 @@
+"""`luafmt minify` on the Lua files of a folder, beside luac5.4.
+
+- luafmt takes a file exactly where luac5.4 does. Told apart are: where luac refuses for another cause than grammar (scopes,
+  and its own limits), where luafmt refuses for a limit of its own, and compiled chunks, which are no Lua.
+- The minified text of a file is compiled to the same chunk, without lines (chunk.py). Where luac refuses the file for
+  another cause than grammar, it refuses its minified text for the same.
+- A minified text is its own minified text.
+"""
+import collections
+import concurrent.futures
+import os
+import re
+import subprocess
+import sys
+
+from chunk import without_lines
+
+LUAFMT = [sys.argv[1], "minify"]
+LUAC = ["luac5.4", "-o", "-", "-"]
+OWN_LIMITS = ("TooLarge", "TooDeep", "ResultTooLarge")
+# What luac refuses that the grammar does not, by its messages in lparser.c, lcode.c, ldo.c and lstate.c.
+NOT_GRAMMAR = re.compile(
+    "break outside|no visible label|jumps into the scope|label '.*' already defined|cannot use '...' outside"
+    "|attempt to assign to const|unknown attribute|multiple to-be-closed|too many |C stack overflow"
+    "|chunk has too many|control structure too long|constants? overflow"
+)
+RULE = "{:<22} {}".format
+
+
+def run(command, text):
+    return subprocess.run(command, input=text, capture_output=True)
+
+
+def cause(message):
+    """The message of luac, without the name of the source and without lines."""
+    message = message.decode("utf-8", "replace").strip().removeprefix("luac5.4: ")
+    return re.sub(r"(at )?line \d+", "line", re.sub(r"^stdin:\d+: ", "", message))
+
+
+def compare_refusal(luac, minified):
+    """luac refuses, and luafmt has this answer."""
+    why = cause(luac.stderr)
+    if not NOT_GRAMMAR.search(why):
+        if minified.returncode == 3:
+            return "refused by both", why
+        return "DIFFERENCE", f"luac: {why}; luafmt: status {minified.returncode}"
+    if minified.returncode == 3:
+        return "refused by both", why
+    again = cause(run(LUAC, minified.stdout).stderr)
+    if again != why:
+        return "DIFFERENCE", f"luac: {why}; of the minified text: {again}"
+    return "luac alone refuses", why
+
+
+def compare(path):
+    """What there is to tell of a file: its kind, and a text."""
+    with open(path, "rb") as file:
+        text = file.read()
+    if text.startswith(b"\x1bLua"):
+        return "compiled chunk", ""
+    luac, minified = run(LUAC, text), run(LUAFMT, text)
+    if minified.returncode not in (0, 3):
+        return "DIFFERENCE", f"luafmt: status {minified.returncode}"
+    if minified.returncode == 0 and run(LUAFMT, minified.stdout).stdout != minified.stdout:
+        return "DIFFERENCE", "minified twice it is another text"
+    if luac.returncode != 0:
+        return compare_refusal(luac, minified)
+    if minified.returncode == 3:
+        refusal = minified.stderr.decode().strip()
+        limit = refusal.endswith(OWN_LIMITS)
+        return "luafmt alone refuses" if limit else "DIFFERENCE", f"luac takes it; luafmt: {refusal}"
+    compiled = run(LUAC, minified.stdout)
+    if compiled.returncode != 0:
+        return "DIFFERENCE", f"luac on the minified text: {cause(compiled.stderr)}"
+    if without_lines(luac.stdout) != without_lines(compiled.stdout):
+        return "DIFFERENCE", "the minified text is compiled to another chunk"
+    return "accepted", f"{len(text)} {len(minified.stdout)}"
+
+
+def main():
+    folder = sys.argv[2]
+    paths = sorted(os.path.join(where, name) for where, _, names in os.walk(folder) for name in names)
+    count, before, after = collections.Counter(), 0, 0
+    with concurrent.futures.ThreadPoolExecutor(2) as pool:
+        for path, (kind, text) in zip(paths, pool.map(compare, paths)):
+            count[kind] += 1
+            if kind == "accepted":
+                sizes = text.split()
+                before, after = before + int(sizes[0]), after + int(sizes[1])
+            elif kind != "refused by both":
+                print(RULE(kind, f"{os.path.relpath(path, folder)}: {text}"), flush=True)
+    print(f"{before} bytes accepted, minified to {after}")
+    print(
+        f"{len(paths)} files: {count['accepted']} accepted, {count['refused by both']} refused by both, "
+        f"{count['luac alone refuses']} refused by luac alone for no cause of grammar, "
+        f"{count['luafmt alone refuses']} above a limit of luafmt, "
+        f"{count['compiled chunk']} compiled chunks, {count['DIFFERENCE']} differences"
+    )
+    sys.exit(1 if count["DIFFERENCE"] else 0)
+
+
+main()
