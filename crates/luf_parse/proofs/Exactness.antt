@@ -1,12 +1,11 @@
 -- How exact answers of parts make exact answers of a whole.
-use Rattle.std.proofs.Common.{◌≡◌, ◌↔◌, ℕ, ◌+◌, Bool, true, false, List, [], ◌∷◌, ◌++◌, append_assoc, append-nil, refl, sym, ap, ◌∙◌, subst, arith, Ok, Err}
+use Rattle.std.proofs.Common.{◌≡◌, ◌↔◌, ℕ, ◌+◌, Bool, true, false, List, [], ◌∷◌, ◌++◌, append_assoc, append-nil, sym, ap, ◌∙◌, subst, arith, Ok, Err}
 use Rattle.std.specs.Prelude.{Result, IfOk, IfErr, IsTrue}
 use Rattle.std.specs.Result.{IsErrAnd}
 use Rattle.luf_lex.specs.declared.token.Tok.{Tok}
 use Rattle.luf_tree.specs.Grammar.{IsToken}
 use Rattle.luf_parse.specs.Exact.{Alone, Refutes, Then, Enters}
 use Rattle.luf_parse.specs.declared.error.ParseErr.{ParseErr}
-use Rattle.luf_parse.specs.declared.error.ParseErr.TheVariants as error
 
 -- an error that is passed on is the same
 pub passed : {R : Type 0} (P : ParseErr → Type 0) {e : ParseErr} (r : Result R ParseErr) → IsErrAnd r (λ x. x ≡ e) → P e → IfErr r P

@@ -1,6 +1,6 @@
 -- What the functions of the parser look for at a place: the parts of the grammar behind which no part goes on, and
 -- which enter no more levels than are left.
-use Rattle.std.specs.Prelude.{◌≡◌, ℕ, ◌+◌, ◌≤◌, ◌<◌, ◌⊎◌, Bool, true, false, Option, Some, None, List, [], ◌∷◌, map, slice_get}
+use Rattle.std.specs.Prelude.{◌≡◌, ℕ, ◌+◌, ◌≤◌, Bool, true, false, Option, List, [], ◌∷◌, map, slice_get}
 use Rattle.std.specs.Option.{option_map}
 use Rattle.luf_lex.specs.declared.token.Tok.{Tok}
 use Rattle.luf_lex.specs.declared.token.Tok.TheVariants.{Name, Word, Sign}
@@ -20,7 +20,7 @@ use Rattle.luf_tree.specs.declared.tree.Args.{Args, out-Args, roll-Args}
 use Rattle.luf_tree.specs.declared.tree.Field.{Field}
 use Rattle.luf_tree.specs.declared.tree.Field.TheVariants as field
 use Rattle.luf_tree.specs.Level.{deepest, expr_levels, field_levels, suffix_levels, step_levels, stat_levels, block_levels, arm_levels, args_levels, body_levels, if_there, block_if_there}
-use Rattle.luf_tree.specs.Grammar.{At, expression, statement, IsToken, IsString, AreNames, AreParams, IsAttribute, AreDeclared, IsPath, IsMethod, IsSemicolon, IsExpr, AreSteps, IsOperand, IsSimple, IsPrefix, IsVariable, IsCall, IsParen, IsHead, AreSuffixes, IsSuffix, IsArgs, AreExprs, IsTable, AreFields, IsField, IsFuncBody, IsBlock, AreStats, IsReturn, IsStat, AreTargets, IsArm, AreArms, IsElse, IsForStep}
+use Rattle.luf_tree.specs.Grammar.{At, expression, statement, IsToken, AreNames, AreParams, IsAttribute, AreDeclared, IsPath, IsMethod, IsSemicolon, IsExpr, AreSteps, IsOperand, IsSimple, IsVariable, IsParen, IsHead, AreSuffixes, IsSuffix, IsArgs, AreExprs, IsTable, AreFields, IsField, IsFuncBody, IsBlock, AreStats, IsReturn, IsStat, AreTargets, IsArm, AreArms, IsElse, IsForStep}
 use Rattle.luf_parse.specs.Exact.{Then, Enters}
 use Rattle.luf_parse.specs.Follow.{NotAt, IsAssigned, NotAssigned, continues_prefix, EndsOperand, EndsExpr, EndsExprs, EndsBlock, EndsStat, EndsArms, EndsField}
 use Rattle.luf_parse.specs.Reads.{begins_suffix}

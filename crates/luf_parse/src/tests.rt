@@ -34,10 +34,12 @@ fn nested(alloc: Global, levels: usize) -> Result<Vec<u8>, Fail> {
 
 #[test]
 fn accepted(rt: HostRuntime) -> Result<(), Fail> {
-    let sources: [(&[u8], u32); 24] = [
+    let sources: [(&[u8], u32); 26] = [
         (b"", 0),
         (b";;;", 0),
         (b"a.b:c\"x\"{}()", 2),
+        (b"f\"s\" (nil) \"s\"", 1),
+        (b"x = (((f{})))", 5),
         (b"a.b:c'x'{}() x=1", 2),
         (b"x = -x^-y^z", 4),
         (b"x = a..b..c", 0),

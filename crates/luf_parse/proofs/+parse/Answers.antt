@@ -1,20 +1,17 @@
-use Rattle.std.proofs.Common.{◌≡◌, ℕ, false, List, [], ◌∷◌, ◌++◌, refl, arith, ap, sym, ◌∙◌}
+use Rattle.std.proofs.Common.{ℕ, false, List, [], ◌∷◌, ◌++◌, refl, arith, ap, sym, ◌∙◌}
 use Rattle.luf_lex.specs.Tokens.{toks_of}
 use Rattle.luf_tree.specs.declared.tree.Expr.{Expr, out-Expr}
 use Rattle.luf_tree.specs.declared.tree.ExprKind.TheVariants as expr
 use Rattle.luf_tree.specs.declared.tree.StatKind.TheVariants as stat
-use Rattle.luf_lex.specs.declared.token.Tok.TheVariants.{Word, Sign}
-use Rattle.luf_lex.specs.declared.token.Word.TheVariants as word
-use Rattle.luf_lex.specs.declared.token.Sign.TheVariants as sign
 use Rattle.luf_tree.specs.Grammar.{expression, statement, AreArms, AreExprs, AreFields, AreStats, AreSteps, AreSuffixes, AreTargets, IsToken, last_field, last_stat, more_arms, more_exprs, more_fields, more_stats, more_steps, more_suffixes, more_targets, name_head, no_else, no_fields, no_for_step, no_stats, one_arm, one_expr, one_step, one_suffix, one_target, operand_expr, paren_head}
 use Rattle.luf_tree.specs.Level.{expr_levels, field_levels, suffix_levels, step_levels, stat_levels, arm_levels}
 use Rattle.luf_tree.proofs.LevelEquations.{step_of_levels}
 use Rattle.luf_parse.proofs.Joining.{joins_more, joins_last, joins_end, level_more}
 use Rattle.luf_parse.proofs.ExprParts.{made_block, made_body, made_args, string_arg_found, block_found, call_found, chain_found, dot_found, func_body_found, function_found, index_found, item_found, keyed_found, list_args_found, method_found, name_found, named_found, no_args_found, operand_found, operator_at, paren_found, power_found, prefix_found, return_nothing_found, return_values_found, simple_found, suffixed_found, table_arg_found, table_expr_found, table_found, unary_found, weaken, weaken_found}
-use Rattle.luf_parse.proofs.StatParts.{arm_found, assign_found, break_found, call_shaped, do_found, else_found, empty_found, for_found, for_in_found, for_step_found, function_stat_found, if_found, local_found, local_function_found, local_values_found, repeat_found, while_found}
-use Rattle.luf_parse.proofs.Exactness.{passes, refutes_by, refutes_form, refutes_first, refutes_next, refutes_triple, alone_form, alone_next, alone_is, alone_triple, then_rest, ok_form, err_form, ahead_more, ahead_last, ahead_end, ahead_refutes, is_at, not_at, list_more, list_last, token_only}
+use Rattle.luf_parse.proofs.StatParts.{arm_found, assign_found, call_shaped, do_found, else_found, for_found, for_in_found, for_step_found, function_stat_found, if_found, local_found, local_function_found, local_values_found, repeat_found, while_found}
+use Rattle.luf_parse.proofs.Exactness.{passes, refutes_by, refutes_form, refutes_first, refutes_next, refutes_triple, alone_form, alone_next, alone_is, alone_triple, then_rest, ok_form, err_form, ahead_more, ahead_last, ahead_end, ahead_refutes, is_at, not_at, list_more, list_last}
 use Rattle.luf_parse.proofs.ExprForms.{operand_inside, unary_form, power_form, simple_inside, function_form, table_expr_form, leaf_only, prefixed_form, table_form, fields_form, fields_end, keyed_form, named_form, item_form, exprs_form, prefix_form, head_name, head_form, paren_form, suffixes_form, dot_form, index_form, method_form, call_form, args_list, args_lone, lone_string, lone_table, steps_form, operand_form, grown_end, grown_form, made_prefix}
-use Rattle.luf_parse.proofs.StatForms.{begins_word, expr_stat_form, short_form, func_body_form, block_form, stats_form, last_form, stats_end, return_form, arms_form, arm_form, else_form, for_step_form, variable_prefix, targets_last, targets_form, stat_form}
+use Rattle.luf_parse.proofs.StatForms.{begins_word, expr_stat_form, short_form, func_body_form, block_form, stats_form, last_form, stats_end, return_form, arms_form, arm_form, else_form, for_step_form, variable_prefix, targets_last, targets_form}
 use Rattle.luf_parse.specs.declared.prefixes.PrefixExpr.{PrefixExpr}
 use Rattle.luf_parse.specs.declared.prefixes.Shape.TheVariants.{Variable}
 use Rattle.luf_tree.specs.declared.tree.Args.{Args, roll-Args}

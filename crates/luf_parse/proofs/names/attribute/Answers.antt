@@ -2,8 +2,6 @@ use Rattle.std.proofs.Common.{arith}
 use Rattle.luf_parse.proofs.Exactness.{passes, refutes_form, refutes_first, refutes_next}
 use Rattle.luf_parse.proofs.NameForms.{attribute_form}
 use Rattle.luf_tree.specs.Grammar.{no_attribute, an_attribute}
-use Rattle.luf_parse.proofs.ExprForms.{unary_form}
-use Rattle.luf_parse.proofs.StatForms.{stat_form}
 use Rattle.luf_parse.proofs.names.attribute.Goals as goal
 
 pub returns-in_ok-to-in-Some-clause-ok : goal.returns-in_ok-to-in-Some-clause-ok

@@ -2,7 +2,7 @@ use Rattle.std.proofs.Common.{true, false, arith}
 use Rattle.luf_lex.specs.Tokens.{toks_of}
 use Rattle.luf_tree.specs.Grammar.{AreNames, one_name, more_names, AreParams, no_params, dots_alone, names_alone, names_and_dots}
 use Rattle.luf_parse.proofs.Joining.{joins_none, joins_more, joins_last, nothing}
-use Rattle.luf_parse.proofs.Exactness.{passes, refutes_by, refutes_form, refutes_triple, alone_triple, ahead_start, ahead_more, ahead_last, ahead_refutes, is_at}
+use Rattle.luf_parse.proofs.Exactness.{passes, refutes_by, refutes_triple, alone_triple, ahead_start, ahead_more, ahead_last, ahead_refutes, is_at}
 use Rattle.luf_parse.proofs.NameForms.{params_named, params_more, params_last, params_dots}
 use Rattle.luf_parse.proofs.names.params.Goals as goal
 
