@@ -36,6 +36,12 @@ pub record HasLargeText (source : List ℕ) : Type 0 where
   pub minified : IsMinified source text
   pub large : 4194304 < length text
 
+-- the causes that tell of tokens without a tree
+abbrev pub TellsNoTree : Refusal → Type 0
+TellsNoTree (Syntax place) = Unit {0}
+TellsNoTree (TooDeep place) = Unit {0}
+TellsNoTree _ = ⊥
+
 -- The cause of a refusal. The limit of the source is looked at first.
 abbrev pub IsRefused : List ℕ → Refusal → Type 0
 IsRefused source TooLarge = 4194304 < length source
