@@ -15,8 +15,8 @@ pub fn accepted_or_refused()
     ensures { (source : List ℕ) (refusal : Refusal) → IsAccepted source → IsRefused source refusal → refusal ≡ Memory }
 {}
 
-/// A source has at most one cause of a refusal but want of memory. That its tokens have no tree may be told in more
-/// than one way.
+/// A source has at most one cause of a refusal but want of memory. That its tokens have no tree of at most 200 levels
+/// may be told by either word and at more than one place.
 pub fn one_refusal()
     ensures { (source : List ℕ) (refusal other : Refusal) → IsRefused source refusal → IsRefused source other → refusal ≢ Memory → other ≢ Memory → (refusal ≡ other) ⊎ (TellsNoTree refusal × TellsNoTree other) }
 {}

@@ -29,7 +29,7 @@ const MOST: usize = 4194304;
 /// `one_refusal` and `accepted_or_refused` say that no two of the causes below hold of one source, so each word but
 /// `Memory` is answered exactly where its cause holds, if memory is found:
 ///
-/// - `TooLarge`: the source has more than 4,194,304 bytes. Nothing else is looked at then, and `Memory` is not answered.
+/// - `TooLarge`: the source has more than 4,194,304 bytes. Nothing else is looked at, and `Memory` is not answered.
 /// - `Lexical`: the source has no cut. Its first fault is told, by place and kind.
 /// - `Syntax` or `TooDeep`: the tokens have no tree of at most 200 levels. Which of the two is answered, and at which
 ///   token, is not said.
@@ -75,7 +75,7 @@ fn pieces_of(alloc: Global, src: &[u8]) -> Result<Cut, Refusal>
     }
 }
 
-/// The tree of a source's tokens, or the place of the token at which it has none.
+/// The tree of a source's tokens, or the place of one of them or of the end, where there is none.
 fn tree_of(alloc: Global, src: &[u8], pieces: &Cut) -> Result<Chunk, Refusal>
     requires within { length src.now ≤ 4194304 }
     requires cut { IsCut src.now pieces.now }
