@@ -1,9 +1,11 @@
--- When a source has a minified text, and which.
+-- When a source has a minified text, and which, and when it has a cause of a refusal, and which.
 use Rattle.std.proofs.Common.{◌≡◌, ◌≢◌, ◌⊎◌, inl, inr, ℕ, ◌≤◌, Option, List, Ok, Err, ◌∷◌, ◌++◌, length, map, refl, sym, ap, ◌∙◌, subst, arith}
 use Rattle.std.specs.Prelude.{Result, IfErr, IsErrAnd, slice_get}
 use Rattle.std.specs.Option.{option_map, unwrap_or}
 use Rattle.std.proofs.lemmas.Option.{unwrap_or-slice_get, slice_get-map}
+use Rattle.luf_text.specs.Place.{place_in}
 use Rattle.luf_text.specs.declared.Span.{Span}
+use Rattle.luf_text.specs.declared.place.Place.{Place}
 use Rattle.luf_lex.specs.Cut.{IsCut}
 use Rattle.luf_lex.specs.Tokens.{toks_of, spans_of, spellings_of}
 use Rattle.luf_lex.specs.declared.fault.LexWhat.{LexWhat}
@@ -15,8 +17,6 @@ use Rattle.luf_tree.specs.Level.{depth_of}
 use Rattle.luf_work.specs.Minified.{hash_text, IsMinified, IsAccepted}
 use Rattle.luf_work.specs.Refusals.{start_of, IsLexicalAt, HasNoTreeAt, IsRefused, TellsNoTree}
 use Rattle.luf_work.specs.Text.{IsJoined, nothing, alone, apart, spaced}
-use Rattle.luf_text.specs.Place.{place_in}
-use Rattle.luf_text.specs.declared.place.Place.{Place}
 use Rattle.luf_work.specs.declared.refusal.Refusal.{Refusal}
 use Rattle.luf_work.specs.declared.refusal.Refusal.TheVariants.{TooLarge, Lexical, Syntax, TooDeep, ResultTooLarge, Memory}
 
@@ -48,7 +48,7 @@ one_text source text other h g =
     h.text_is ∙ ap (λ (ps : List Piece). hash_text source ps ++ h.tokens) same ∙ ap (λ t. hash_text source g.pieces ++ t) (one_joined joined g.joined) ∙ sym g.text_is
 
 -- and none where its tokens have no tree
-pub no_tree_no_text : (source text : List ℕ) (place : Place) → HasNoTreeAt source place → IsMinified source text → ⊥
+no_tree_no_text : (source text : List ℕ) (place : Place) → HasNoTreeAt source place → IsMinified source text → ⊥
 no_tree_no_text source text place h m =
     let same : m.pieces ≡ h.pieces = one_cut source m.pieces h.pieces m.is.cut h.cut in
     h.none m.chunk (subst (λ (ps : List Piece). IsChunk (toks_of ps) m.chunk) same m.is.tree) m.is.levels
