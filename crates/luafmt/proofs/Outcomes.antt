@@ -1,15 +1,13 @@
 -- The table of answers, read by its rows.
-use Rattle.std.proofs.Common.{◌≡◌, ◌⊎◌, inl, inr, ℕ, ◌<◌, ◌≤◌, List, [], ◌++◌, length, codes, Option, Some, None, Err, refl, sym, ap, subst, arith, length-append}
+use Rattle.std.proofs.Common.{◌≡◌, ◌⊎◌, inl, inr, ℕ, ◌<◌, ◌≤◌, List, [], ◌++◌, length, codes, Option, Some, None, Err, refl, sym, subst, arith, length-append}
 use Rattle.luf_io.specs.Source.{Taken}
 use Rattle.luf_io.specs.Read.{PullsWithin}
 use Rattle.luf_io.specs.declared.read.ReadErr.{ReadErr}
 use Rattle.luf_io.specs.declared.read.ReadErr.TheVariants as read
-use Rattle.luf_work.specs.Minified.{IsAccepted, IsMinified}
+use Rattle.luf_work.specs.Minified.{IsMinified}
 use Rattle.luf_work.specs.Refusals.{IsRefused}
 use Rattle.luf_work.specs.declared.refusal.Refusal.{Refusal}
-use Rattle.luf_work.specs.declared.refusal.Refusal.TheVariants.{TooLarge, Lexical, Syntax, TooDeep, ResultTooLarge, Memory}
-use Rattle.luf_lex.proofs.OneCut.{cut_or_fault}
-use Rattle.luf_work.proofs.RefusalLemmas.{one_minified, no_tree_no_text}
+use Rattle.luf_work.specs.declared.refusal.Refusal.TheVariants.{TooLarge}
 use Rattle.luafmt.specs.Line.{line_of, refusal_line}
 use Rattle.luafmt.specs.Outcome.{Outcome, IsMinify, Gives, usage, refused, done, AreContents, IsOutcome, RanThrough}
 use Rattle.luafmt.specs.declared.status.Status.{Status}
@@ -35,21 +33,6 @@ usage_only words contents w (usage _ _ _) other = refl
 usage_only words contents w (refused _ _ _ _ m _ _) other = absurd (other m)
 usage_only words contents w (done _ _ _ m _ _ _) other = absurd (other m)
 
--- a source that is accepted has no refusal with a line
-pub not_both : (contents line : List ℕ) (refusal : Refusal) → IsRefused contents refusal → refusal_line refusal ≡ Some line → IsAccepted contents → ⊥
-not_both contents line TooLarge large told a = omega (arith, large, a.within)
-not_both contents line (Lexical place what) fault told a = cut_or_fault contents a.minified.pieces fault.1.at what a.minified.is.cut fault.1.fault
-not_both contents line (Syntax place) none told a = no_tree_no_text contents a.text place none.1 a.minified
-not_both contents line (TooDeep place) none told a = no_tree_no_text contents a.text place none.1 a.minified
-not_both contents line ResultTooLarge over told a = omega (arith, over.1.large, a.fits, ap length (one_minified contents over.1.text a.text over.1.minified a.minified))
-not_both contents line Memory any told a = cc
-
--- an accepted source gives `Done`
-pub done_only : (words : List (List ℕ)) (contents : List ℕ) (w : Outcome) → Gives words contents w → IsMinify words → IsAccepted contents → w.status ≡ Done
-done_only words contents w (usage _ _ other) m a = absurd (other m)
-done_only words contents w (refused _ _ line refusal _ cause told) m a = absurd (not_both contents line refusal cause told a)
-done_only words contents w (done _ _ _ _ _ _ _) m a = refl
-
 -- the row of words that are no command
 pub usage_of : (words : List (List ℕ)) (contents : List ℕ) (w : Outcome) → w ≡ record { status = Usage; out = []; errs = line_of (codes "luafmt: Usage") } → (IsMinify words → ⊥) → Gives words contents w
 usage_of words contents w is other = subst (λ (v : Outcome). Gives words contents v) (sym is) (usage words contents other)
@@ -59,8 +42,8 @@ pub refused_of : (words : List (List ℕ)) (contents : List ℕ) (w : Outcome) (
 refused_of words contents w refusal m cause h = subst (λ (v : Outcome). Gives words contents v) (sym h.2) (refused words contents h.0 refusal m cause h.1)
 
 -- the row of an accepted source, whose text was put into a buffer that was empty
-pub done_of : (words : List (List ℕ)) (contents out : List ℕ) → IsMinify words → IsAccepted contents → ((text : List ℕ) × IsMinified contents text × (out ≡ [] ++ text)) → Gives words contents (record { status = Done; out = out; errs = [] })
-done_of words contents out m a h = subst (λ (text : List ℕ). Gives words contents (record { status = Done; out = text; errs = [] })) (sym h.2) (done words contents h.0 m a.within h.1 (subst (λ (t : List ℕ). length t ≤ 4194304) (one_minified contents a.text h.0 a.minified h.1) a.fits))
+pub done_of : (words : List (List ℕ)) (contents out text : List ℕ) → IsMinify words → length contents ≤ 4194304 → IsMinified contents text → length text ≤ 4194304 → out ≡ [] ++ text → Gives words contents (record { status = Done; out = out; errs = [] })
+done_of words contents out text m within minified fits is = subst (λ (t : List ℕ). Gives words contents (record { status = Done; out = t; errs = [] })) (sym is) (done words contents text m within minified fits)
 
 -- every input has contents: those that it tells, or any
 pub contents_of : (left : Option (List ℕ)) → (contents : List ℕ) × AreContents left contents
@@ -84,8 +67,3 @@ too_large_outcome words left after pulled e w is word m taken limit =
     let over : length pulled ≡ 4194305 = subst (λ (r : ReadErr). PullsWithin {T = Unit {0}} (Err r) 4194304 (length pulled)) word limit in
     let some = contents_pulled left pulled after taken (omega arith) in
     record { contents = some.0; told = some.1; gives = refused_of words some.0 w TooLarge m some.2 is }
-
--- an accepted source gives `Done`
-pub done_outcome : (words : List (List ℕ)) (left : Option (List ℕ)) (w : Outcome) (contents : List ℕ) → IsOutcome words left w → left ≡ Some contents → IsAccepted contents → IsMinify words → w.status ≡ Done
-done_outcome words left w contents o told accepted m =
-    done_only words o.contents w o.gives m (subst (λ (s : List ℕ). IsAccepted s) (o.told contents told) accepted)

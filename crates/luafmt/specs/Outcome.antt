@@ -18,7 +18,8 @@ pub record Outcome : Type 0 where
 abbrev pub IsMinify : List (List ℕ) → Type 0
 IsMinify words = words ≡ codes "minify" ∷ []
 
--- The table of answers. A source is either accepted or refused.
+-- The table of answers. A source is either accepted or refused. Where its tokens have no tree of at most 200 levels,
+-- the line has `Syntax` or `TooDeep` and a place. Which of the two, and which token's place, is not said here.
 pub data Gives : List (List ℕ) → List ℕ → Outcome → Type 0 where
   usage : (words : List (List ℕ)) (contents : List ℕ) → (IsMinify words → ⊥)
       → Gives words contents (record { status = Usage; out = []; errs = line_of (codes "luafmt: Usage") })

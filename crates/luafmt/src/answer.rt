@@ -1,7 +1,7 @@
 //! What a run is to write, before any of it is written.
 ghost use Rattle.std.specs.Prelude.{◌≡◌, ◌↔◌, ℕ, List, [], map, string_bytes, Some, IfOk, OnOk, OnErr, IsErrOf, IsTrue};
 ghost use Rattle.luf_io.specs.Count.{Rose};
-ghost use Rattle.luf_work.specs.Minified.{SameTokens};
+ghost use Rattle.luf_work.specs.Minified.{IsAccepted, SameTokens};
 ghost use Rattle.std.specs.Cow.{cow_str_bytes};
 ghost use Rattle.luafmt.specs.Line.{line_of, refusal_line as spec_refusal_line};
 ghost use Rattle.luafmt.specs.Outcome.{Outcome, IsMinify, Gives, AreContents, IsOutcome};
@@ -61,6 +61,8 @@ pub(crate) fn prepare<I: Source>(
     ensures gives { IfOk result (IsOutcome (map string_bytes words.now) (I.left input.old)) }
     ensures same_tokens { IfOk result (λ a. a.status ≡ Status.Done → (contents : List ℕ)
         × AreContents (I.left input.old) contents × SameTokens contents a.out) }
+    ensures accepted { IfOk result (λ a. (contents : List ℕ) → I.left input.old ≡ Some contents
+        → IsAccepted contents → IsMinify (map string_bytes words.now) → a.status ≡ Status.Done) }
     ensures calm { OnOk result (I.faults input.new ≡ I.faults input.old) }
 
     // Where the words are not `minify` nothing is read, and so nothing fails.
@@ -96,6 +98,7 @@ fn minified(alloc: Global, source: &[u8]) -> Result<Answer, Memory>
     ensures gives { IfOk result (λ a.
         (words : List (List ℕ)) → IsMinify words → Gives words source.now a) }
     ensures same_tokens { IfOk result (λ a. a.status ≡ Status.Done → SameTokens source.now a.out) }
+    ensures accepted { IfOk result (λ a. IsAccepted source.now → a.status ≡ Status.Done) }
 {
     let mut out = Vec::new(alloc);
     match minify_bytes(alloc, source, &mut out) {

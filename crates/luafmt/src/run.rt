@@ -15,7 +15,8 @@ use std::alloc::Global;
 /// written before the whole text is there. No file is touched.
 ///
 /// A fault of `input` gives `ReadFault`, one of `out` or `errs` gives `WriteFault`, and want of
-/// memory gives `NoMemory`; none of these writes a line.
+/// memory gives `NoMemory`. `ReadFault` and `NoMemory` write nothing; `WriteFault` may leave a part of
+/// the text or of the line.
 pub fn run<F: Files, I: Source, O: Sink, E: Sink>(
     alloc: Global,
     words: &[String],

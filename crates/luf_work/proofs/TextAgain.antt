@@ -1,8 +1,8 @@
 -- The text of a source has its tokens.
-use Rattle.std.proofs.Common.{◌≡◌, ℕ, zero, suc, ◌+◌, ◌<◌, ◌≤◌, inl, inr, Bool, true, false, cond, eqb, List, [], ◌∷◌, ◌++◌, Some, length, length-append, append-nil, append_assoc, take, drop, get_or, refl, sym, ap, ◌∙◌, subst, arith}
+use Rattle.std.proofs.Common.{◌≡◌, ℕ, zero, suc, ◌+◌, ◌-◌, ◌<◌, ◌≤◌, inl, inr, Bool, true, false, cond, eqb, List, [], ◌∷◌, ◌++◌, Some, length, length-append, append-nil, append_assoc, take, drop, get_or, refl, sym, ap, ◌∙◌, subst, arith}
 use Rattle.std.specs.List.{prefix_len}
 use Rattle.std.specs.Prelude.{slice_range, slice_get, map}
-use Rattle.std.proofs.Math.Seq.{drop-append_seam, drop-drop}
+use Rattle.std.proofs.Math.Seq.{take-append_seam, drop-append_seam, drop-drop}
 use Rattle.std.proofs.lemmas.Bool.{cond-true, cond-false, and_left, false≢true}
 use Rattle.std.proofs.lemmas.Bool.Decides.{nat_tests}
 use Rattle.std.proofs.lemmas.List.{length-map}
@@ -154,13 +154,38 @@ hash_no_mark : (a : List ℕ) → begins (λ b. eqb b 35) a ≡ true → begins 
 hash_no_mark [] h = refl
 hash_no_mark (b ∷ a) h = grind (arith, nat_tests)
 
+-- a text that begins with a `#` line has no mark
+hash_mark : (a x : List ℕ) → IsHashLine a → mark_length (a ++ 10 ∷ x) ≡ 0
+hash_mark a x h =
+    no_mark_length (a ++ 10 ∷ x) (begins_front (λ b. eqb 239 b) a (10 ∷ x) (begins_some (λ b. eqb b 35) a h.first) ∙ hash_no_mark a h.first)
+
 -- a `#` line and a line feed end the head behind the line
 hash_end : (a x : List ℕ) → IsHashLine a → head_end (a ++ 10 ∷ x) ≡ length a
 hash_end a x h =
     let some = begins_some (λ b. eqb b 35) a h.first in
-    end_of (a ++ 10 ∷ x) (length a)
-    (no_mark_length (a ++ 10 ∷ x) (begins_front (λ b. eqb 239 b) a (10 ∷ x) some ∙ hash_no_mark a h.first))
+    end_of (a ++ 10 ∷ x) (length a) (hash_mark a x h)
     (cond-true _ _ _ (begins_front (λ b. eqb b 35) a (10 ∷ x) some ∙ h.first) ∙ run_before in_line a (10 ∷ x) h.each refl)
+
+-- a text without a head has no `#` line
+hash_text_plain : (text : List ℕ) (pieces : List Piece) → IsCut text pieces → mark_length text ≡ 0 → head_end text ≡ 0 → hash_text text pieces ≡ []
+hash_text_plain text pieces cut mark end = hash_text_none text pieces cut (ap (λ i. eqb i (mark_length text)) end ∙ ap (λ i. eqb 0 i) mark)
+
+not_empty : (a : List ℕ) → begins (λ b. eqb b 35) a ≡ true → eqb (length a) 0 ≡ false
+not_empty a h =
+    let some = begins_some (λ b. eqb b 35) a h in
+    grind (arith, nat_tests)
+
+-- the `#` line of a text that begins with one
+hash_text_front : (a x : List ℕ) (pieces : List Piece) → IsHashLine a → IsCut (a ++ 10 ∷ x) pieces → hash_text (a ++ 10 ∷ x) pieces ≡ a ++ 10 ∷ []
+hash_text_front a x pieces h cut =
+    let text : List ℕ = a ++ 10 ∷ x in
+    let mark : mark_length text ≡ 0 = hash_mark a x h in
+    let end : head_end text ≡ length a = hash_end a x h in
+    let size : head_end text - 0 ≡ length a = omega (arith, end) in
+    hash_text_there text pieces cut (ap (λ i. eqb i (mark_length text)) end ∙ ap (λ i. eqb (length a) i) mark ∙ not_empty a h.first)
+    ∙ ap (λ i. slice_range text i (head_end text) ++ 10 ∷ []) mark
+    ∙ ap (λ i. take i text ++ 10 ∷ []) size
+    ∙ ap (λ t. t ++ 10 ∷ []) (take-append_seam a (10 ∷ x))
 
 -- a line feed before what begins with no byte of a line end is a piece
 feed_longest : (x : List ℕ) (m : ℕ) → begins is_line_byte x ≡ false → 1 < m → m ≤ length (10 ∷ x) → IsLineEnd (take m (10 ∷ x)) → ⊥
@@ -179,10 +204,12 @@ feed_first x stop = line_end_first (10 ∷ x) 1 refl refl (omega arith) (inl ref
 
 -- ---- the tokens of the text
 
--- a text that is cut into the tokens of a source behind its own head
-whole : (source text : List ℕ) (pieces : List Piece) (chunk : Chunk) → IsSource source pieces chunk → TextCut text (head_end text) (toks_of pieces) (spellings_of source pieces) → SameTokens source text
-whole source text pieces chunk is again =
+-- a text that is cut into the tokens of a source behind its own head, which has the `#` line of the source
+whole : (source text : List ℕ) (pieces : List Piece) (chunk : Chunk) → IsSource source pieces chunk → TextCut text (head_end text) (toks_of pieces) (spellings_of source pieces)
+    → ((others : List Piece) → IsCut text others → hash_text text others ≡ hash_text source pieces) → SameTokens source text
+whole source text pieces chunk is again hash =
     let behind = toks_behind text again.pieces in
+    let cut : IsCut text (head_of text ++ again.pieces) = record { rest = again.pieces; head = refl; cut = again.cut } in
     let toks : toks_of (head_of text ++ again.pieces) ≡ toks_of pieces = behind.0 ∙ again.toks_are in
     record {
       pieces = pieces;
@@ -190,12 +217,13 @@ whole source text pieces chunk is again =
       chunk = chunk;
       is = is;
       same = record {
-        cut = record { rest = again.pieces; head = refl; cut = again.cut };
+        cut = cut;
         tree = subst (λ (ts : List Tok). IsChunk ts chunk) (sym toks) is.tree;
         levels = is.levels;
       };
       toks = toks;
       spellings = behind.1 ∙ again.spellings_are;
+      hash = hash (head_of text ++ again.pieces) cut;
     }
 
 pub same_tokens : (source : List ℕ) (pieces : List Piece) (chunk : Chunk) (tokens : List ℕ) → IsSource source pieces chunk → IsJoined (spellings_of source pieces) tokens → SameTokens source (hash_text source pieces ++ tokens)
@@ -219,18 +247,22 @@ same_tokens source pieces chunk tokens is joined = by_head (eqb (head_end source
     by_head : (v : Bool) → eqb (head_end source) (mark_length source) ≡ v → SameTokens source (hash_text source pieces ++ tokens)
     by_head true none =
         let text : hash_text source pieces ++ tokens ≡ tokens = ap (λ h. h ++ tokens) (hash_text_none source pieces is.cut none) in
-        let end : head_end tokens ≡ 0 = end_of tokens 0 (no_mark_length tokens mark) (no_hash_length tokens hash) in
+        let no_mark : mark_length tokens ≡ 0 = no_mark_length tokens mark in
+        let end : head_end tokens ≡ 0 = end_of tokens 0 no_mark (no_hash_length tokens hash) in
         subst (λ t. SameTokens source t) (sym text) (whole source tokens pieces chunk is
         (subst (λ i. TextCut tokens i (toks_of pieces) (spellings_of source pieces)) (sym end)
-        (text_cut tokens 0 (toks_of pieces) joined spelled brackets (omega arith) refl)))
+        (text_cut tokens 0 (toks_of pieces) joined spelled brackets (omega arith) refl))
+        (λ others cut. hash_text_plain tokens others cut no_mark end ∙ sym (hash_text_none source pieces is.cut none)))
     by_head false some =
         let front : List ℕ = slice_range source (mark_length source) (head_end source) in
         let all : List ℕ = front ++ 10 ∷ tokens in
         let text : hash_text source pieces ++ tokens ≡ all = ap (λ h. h ++ tokens) (hash_text_there source pieces is.cut some) ∙ append_assoc front (10 ∷ []) tokens in
         let behind : drop (length front) all ≡ 10 ∷ tokens = drop-append_seam front (10 ∷ tokens) in
-        let end : head_end all ≡ length front = hash_end front tokens (hash_line_in source some) in
+        let line_in : IsHashLine front = hash_line_in source some in
+        let end : head_end all ≡ length front = hash_end front tokens line_in in
         subst (λ t. SameTokens source t) (sym text) (whole source all pieces chunk is
         (subst (λ i. TextCut all i (toks_of pieces) (spellings_of source pieces)) (sym end)
         (with_other all (length front) LineEnd (10 ∷ []) tokens (toks_of pieces) (spellings_of source pieces) refl refl behind (feed_first tokens line)
         (text_cut all (length front + 1) (toks_of pieces) joined spelled brackets (omega (arith, length-append front (10 ∷ tokens)))
-        (sym (drop-drop 1 (length front) all) ∙ ap (drop 1) behind)))))
+        (sym (drop-drop 1 (length front) all) ∙ ap (drop 1) behind))))
+        (λ others cut. hash_text_front front tokens others line_in cut ∙ sym (hash_text_there source pieces is.cut some)))

@@ -11,7 +11,8 @@ use Rattle.luf_lex.specs.declared.token.Kind.TheVariants.{HashLine, Mark}
 use Rattle.luf_lex.specs.declared.token.Piece.{Piece}
 use Rattle.luf_guard.specs.Space.{IsSpelling}
 use Rattle.luf_guard.proofs.Spellings.{spelling_at}
-use Rattle.luf_work.specs.Text.{IsJoined, nothing, alone, apart, spaced, IsNext, first, next_apart, next_spaced}
+use Rattle.luf_work.specs.Next.{IsNext, first, next_apart, next_spaced}
+use Rattle.luf_work.specs.Text.{IsJoined, nothing, alone, apart, spaced}
 use Rattle.luf_work.proofs.TextAgain.{length_spellings, marked, hashed}
 
 -- the last of the tokens, if there is one

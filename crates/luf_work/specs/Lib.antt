@@ -1,3 +1,4 @@
 pub mod Minified
+pub mod Next
 pub mod Refusals
 pub mod Text

@@ -44,7 +44,7 @@ pub record IsAccepted (source : List ℕ) : Type 0 where
   pub minified : IsMinified source text
   pub fits : length text ≤ 4194304
 
--- the text of a source has the same tokens in the same order, and so the same tree
+-- the text of a source has the same `#` line, and the same tokens in the same order, and so the same tree
 pub record SameTokens (source text : List ℕ) : Type 0 where
   pub pieces : List Piece
   pub others : List Piece
@@ -53,3 +53,4 @@ pub record SameTokens (source text : List ℕ) : Type 0 where
   pub same : IsSource text others chunk
   pub toks : toks_of others ≡ toks_of pieces
   pub spellings : spellings_of text others ≡ spellings_of source pieces
+  pub hash : hash_text text others ≡ hash_text source pieces

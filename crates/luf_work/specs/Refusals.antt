@@ -21,7 +21,8 @@ pub record IsLexicalAt (source : List ℕ) (place : Place) (what : LexWhat) : Ty
 abbrev pub start_of : List ℕ → List Piece → ℕ → ℕ
 start_of source pieces token = slice_index_or (map (λ s. s.from) (spans_of pieces)) token (length source)
 
--- a source that has a cut, but no tree, told at the line and column of a token, or of the end
+-- A source that has a cut, but no tree of at most 200 levels, told at the line and column of a token, or of the end.
+-- Which of `Syntax` and `TooDeep` is answered, and at which token, is not said here.
 pub record HasNoTreeAt (source : List ℕ) (place : Place) : Type 0 where
   pub pieces : List Piece
   pub cut : IsCut source pieces
@@ -35,6 +36,12 @@ pub record HasLargeText (source : List ℕ) : Type 0 where
   pub text : List ℕ
   pub minified : IsMinified source text
   pub large : 4194304 < length text
+
+-- the causes that tell of tokens without a tree of at most 200 levels
+abbrev pub TellsNoTree : Refusal → Type 0
+TellsNoTree (Syntax place) = Unit {0}
+TellsNoTree (TooDeep place) = Unit {0}
+TellsNoTree _ = ⊥
 
 -- The cause of a refusal. The limit of the source is looked at first.
 abbrev pub IsRefused : List ℕ → Refusal → Type 0

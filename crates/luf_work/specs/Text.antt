@@ -1,5 +1,5 @@
 -- The text of tokens. Our own rules.
-use Rattle.std.specs.Prelude.{ℕ, Option, Some, None, List, [], ◌∷◌, ◌++◌}
+use Rattle.std.specs.Prelude.{ℕ, List, [], ◌∷◌, ◌++◌}
 use Rattle.luf_guard.specs.Space.{StandApart, NeedSpace}
 
 -- Spellings joined with the fewest spaces: one exactly where two neighbours need it.
@@ -8,9 +8,3 @@ pub data IsJoined : List (List ℕ) → List ℕ → Type 0 where
   alone : {a : List ℕ} → IsJoined (a ∷ []) a
   apart : {a b text : List ℕ} {rest : List (List ℕ)} → StandApart a b → IsJoined (b ∷ rest) text → IsJoined (a ∷ b ∷ rest) (a ++ text)
   spaced : {a b text : List ℕ} {rest : List (List ℕ)} → NeedSpace a b → IsJoined (b ∷ rest) text → IsJoined (a ∷ b ∷ rest) (a ++ 32 ∷ text)
-
--- what one more spelling adds behind the one before, if there is one
-pub data IsNext : Option (List ℕ) → List ℕ → List ℕ → Type 0 where
-  first : {b : List ℕ} → IsNext None b b
-  next_apart : {a b : List ℕ} → StandApart a b → IsNext (Some a) b b
-  next_spaced : {a b : List ℕ} → NeedSpace a b → IsNext (Some a) b (32 ∷ b)

@@ -1,5 +1,5 @@
 // `minify`: the tokens of a source with the fewest spaces.
-ghost use Rattle.std.specs.Prelude.{◌≡◌, ◌<◌, ◌≤◌, ◌^◌, ◌↔◌, ◌++◌, ℕ, List, length, take, IfOk, IfErr, OnOk, OnErr, IsErrOf};
+ghost use Rattle.std.specs.Prelude.{◌≡◌, ◌<◌, ◌≤◌, ◌^◌, ◌↔◌, ◌⊎◌, ◌++◌, ℕ, List, length, take, Ok, Err, IfOk, IfErr, OnOk, OnErr, IsErrOf};
 ghost use Rattle.luf_text.specs.Place.{place_in};
 ghost use Rattle.luf_lex.specs.Cut.{IsCut};
 ghost use Rattle.luf_lex.specs.Tokens.{toks_of, spellings_of};
@@ -21,16 +21,24 @@ use std::alloc::Global;
 /// The most bytes that a source may have, and a text.
 const MOST: usize = 4194304;
 
-/// Appends the minified text of a source. An error leaves `into` as it was.
+/// Appends the minified text of a source. An accepted source has `Ok` or `Memory`, and no other source has `Ok`. An
+/// error leaves `into` as it was. `one_text` says that a source has at most one text.
 ///
 /// # Errors
 ///
-/// `TooLarge` for a source above the limit, `Lexical` for one that has no cut, `Syntax` and `TooDeep` for one whose
-/// tokens have no tree, `ResultTooLarge` for one whose text is above the limit; `Memory`.
+/// `one_refusal` and `accepted_or_refused` say that no two of the causes below hold of one source, so each word but
+/// `Memory` is answered exactly where its cause holds, if memory is found:
+///
+/// - `TooLarge`: the source has more than 4,194,304 bytes. Nothing else is looked at, and `Memory` is not answered.
+/// - `Lexical`: the source has no cut. Its first fault is told, by place and kind.
+/// - `Syntax` or `TooDeep`: the tokens have no tree of at most 200 levels. Which of the two is answered, and at which
+///   token, is not said.
+/// - `ResultTooLarge`: the source has a minified text, which has more than 4,194,304 bytes.
+/// - `Memory`: no memory was found. It alone has no cause in the source.
 pub fn minify_bytes(alloc: Global, src: &[u8], into: &mut Vec<u8>) -> Result<(), Refusal>
     ensures accepted { OnOk result (IsAccepted src.now) }
-    ensures minified { OnOk result ((text : List ℕ) × IsMinified src.now text × (into.new.items ≡ into.old.items ++ text)) }
-    ensures same_tokens { OnOk result ((text : List ℕ) × SameTokens src.now text × (into.new.items ≡ into.old.items ++ text)) }
+    ensures ok { OnOk result ((text : List ℕ) × IsMinified src.now text × SameTokens src.now text × (length text ≤ 4194304) × (into.new.items ≡ into.old.items ++ text)) }
+    ensures complete { IsAccepted src.now → (result ≡ Ok tt) ⊎ (result ≡ Err Refusal.Memory) }
 
     ensures refused { IfErr result (IsRefused src.now) }
     ensures too_large { IsErrOf result Refusal.TooLarge ↔ (4194304 < length src.now) }
@@ -67,7 +75,7 @@ fn pieces_of(alloc: Global, src: &[u8]) -> Result<Cut, Refusal>
     }
 }
 
-/// The tree of a source's tokens, or the place of the token at which it has none.
+/// The tree of a source's tokens, or the place of one of them or of the end, where there is none.
 fn tree_of(alloc: Global, src: &[u8], pieces: &Cut) -> Result<Chunk, Refusal>
     requires within { length src.now ≤ 4194304 }
     requires cut { IsCut src.now pieces.now }

@@ -10,9 +10,10 @@ pub enum Refusal {
     TooLarge,
     /// The source has no cut into pieces: where its first fault is, and which.
     Lexical(Place, LexWhat),
-    /// The grammar does not go on with the token at this place, or with the end of the source.
+    /// The tokens have no tree of at most 200 levels. The place is that of a token, or of the end of the source. Which
+    /// of `Syntax` and `TooDeep` is answered, and at which token, is not said.
     Syntax(Place),
-    /// The token at this place enters level 201.
+    /// As for `Syntax`.
     TooDeep(Place),
     /// The text would have more than 4,194,304 bytes.
     ResultTooLarge,

@@ -5,7 +5,8 @@ ghost use Rattle.luf_lex.specs.Cut.{IsCut};
 ghost use Rattle.luf_lex.specs.Tokens.{spellings_of};
 ghost use Rattle.luf_work.specs.Minified.{hash_line, hash_text};
 ghost use Rattle.luf_guard.specs.Space.{IsSpelling};
-ghost use Rattle.luf_work.specs.Text.{IsJoined, IsNext};
+ghost use Rattle.luf_work.specs.Next.{IsNext};
+ghost use Rattle.luf_work.specs.Text.{IsJoined};
 
 use luf_guard::needs_space;
 use luf_lex::{Cut, Kind, Piece};

@@ -1,12 +1,12 @@
 use Rattle.std.proofs.Common.{subst, ◌≡◌, ◌++◌, List, ℕ}
-use Rattle.luf_work.specs.Minified.{IsMinified}
 use Rattle.luafmt.proofs.Outcomes.{done_of, refused_of}
 use Rattle.luafmt.proofs.answer.minified.Goals as goal
 
 pub returns-in-Ok-clause-gives : goal.returns-in-Ok-clause-gives
 returns-in-Ok-clause-gives c = λ words m.
-    done_of words c.args.source.now c.minify_bytes.new.into.items m c.in-Ok.ensures.accepted
-    (subst (λ (old : List ℕ). (text : List ℕ) × IsMinified c.args.source.now text × (c.minify_bytes.new.into.items ≡ old ++ text)) c.new-out.ensures.items c.in-Ok.ensures.minified)
+    let written = c.in-Ok.ensures.ok in
+    done_of words c.args.source.now c.minify_bytes.new.into.items written.0 m c.in-Ok.ensures.accepted.within written.1 written.3
+    (subst (λ (old : List ℕ). c.minify_bytes.new.into.items ≡ old ++ written.0) c.new-out.ensures.items written.4)
 
 pub returns-in_ok-refused-in-Err-clause-gives : goal.returns-in_ok-refused-in-Err-clause-gives
 returns-in_ok-refused-in-Err-clause-gives c = λ words m.

@@ -1,6 +1,6 @@
 use Rattle.std.proofs.Common.{inl, ap, subst, ◌∙◌}
 use Rattle.luafmt.specs.Outcome.{Outcome, RanThrough}
-use Rattle.luafmt.proofs.Outcomes.{usage_only, done_outcome, runs_through, none_cut_short}
+use Rattle.luafmt.proofs.Outcomes.{usage_only, runs_through, none_cut_short}
 use Rattle.luafmt.proofs.run.run.Goals as goal
 
 pub returns-in-Ok-write-clause-no_command : goal.returns-in-Ok-write-clause-no_command
@@ -18,4 +18,4 @@ returns-in-Ok-write-clause-part g c = λ cut.
 
 pub returns-in-Ok-write-clause-complete : goal.returns-in-Ok-write-clause-complete
 returns-in-Ok-write-clause-complete g c = λ contents told accepted m _ _ _.
-    inl (ap (λ (w : Outcome). w.status) c.answer.view_is ∙ done_outcome _ _ _ contents c.in-Ok.ensures.gives told accepted m)
+    inl (ap (λ (w : Outcome). w.status) c.answer.view_is ∙ c.in-Ok.ensures.accepted contents told accepted m)
