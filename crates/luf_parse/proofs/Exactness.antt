@@ -1,10 +1,10 @@
 -- How exact answers of parts make exact answers of a whole.
-use Rattle.std.proofs.Common.{◌≡◌, ◌↔◌, ℕ, ◌+◌, Bool, true, false, List, [], ◌∷◌, ◌++◌, append_assoc, append-nil, sym, ap, ◌∙◌, subst, arith, Ok, Err}
+use Rattle.std.proofs.Common.{◌≡◌, ◌↔◌, ℕ, Bool, true, false, List, [], ◌∷◌, ◌++◌, append_assoc, append-nil, sym, ap, ◌∙◌, subst, arith, Ok, Err}
 use Rattle.std.specs.Prelude.{Result, IfOk, IfErr, IsTrue}
 use Rattle.std.specs.Result.{IsErrAnd}
 use Rattle.luf_lex.specs.declared.token.Tok.{Tok}
 use Rattle.luf_tree.specs.Grammar.{IsToken}
-use Rattle.luf_parse.specs.Exact.{Alone, Refutes, Then, Enters}
+use Rattle.luf_parse.specs.Exact.{Alone, Refutes, Then}
 use Rattle.luf_parse.specs.declared.error.ParseErr.{ParseErr}
 
 -- an error that is passed on is the same
@@ -57,9 +57,6 @@ err_form (Err x) f h = refutes_form f h
 -- one token stands at a place, and ends at one
 pub token_only : {toks : List Tok} {i j : ℕ} {t : Tok} → IsToken toks i t j → Alone (IsToken toks i t) j
 token_only t k u = let a = t.next in let b = u.next in omega arith
-
-pub enters_only : {left inner : ℕ} → left ≡ inner + 1 → Alone (Enters left) inner
-enters_only h k u = omega arith
 
 -- a list that is read part by part: each whole has what was read, and then a rest
 abbrev pub Ahead : {X T : Type 0} → ((List X × T) → Type 0) → List X → ((List X × T) → Type 0) → Type 0

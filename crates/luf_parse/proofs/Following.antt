@@ -137,23 +137,6 @@ pub binary_ends_operand : {toks : List Tok} {i : ℕ} → 0 < level_at toks i �
 binary_ends_operand {toks} {i} h =
     record { suffix = binary_suffix (slice_get toks i) h; power = λ there. let none = ap level_of there in absurd (omega arith) }
 
--- what begins no suffix goes on with no prefix expression, and is no `(`
-sign_no_suffix : (s : Sign) → sign_begins_suffix s ≡ false → sign_continues s ≡ false
-sign_no_suffix sign.Dot h = absurd cc
-sign_no_suffix sign.LeftBracket h = absurd cc
-sign_no_suffix sign.Colon h = absurd cc
-sign_no_suffix sign.LeftBrace h = absurd cc
-sign_no_suffix _ h = refl
-
-no_suffix : (t : Option Tok) → token_begins_suffix t ≡ false → continues_prefix t ≡ false
-no_suffix (Some tok.Short) h = absurd cc
-no_suffix (Some tok.Long) h = absurd cc
-no_suffix (Some (tok.Sign s)) h = sign_no_suffix s h
-no_suffix _ h = refl
-
-pub suffix_continues : (toks : List Tok) (i : ℕ) → begins_suffix toks i ≡ false → continues_prefix (slice_get toks i) ≡ false
-suffix_continues toks i h = no_suffix (slice_get toks i) h
-
 sign_suffix_other : (s : Sign) → sign_continues s ≡ false → (s ≡ sign.LeftParen → ⊥) → sign_begins_suffix s ≡ false
 sign_suffix_other sign.LeftParen h other = absurd (other refl)
 sign_suffix_other sign.Dot h other = absurd cc

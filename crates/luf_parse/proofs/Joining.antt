@@ -34,9 +34,6 @@ map_push f (y ∷ ys) x = ap (λ zs. f y ∷ zs) (map_push f ys x)
 pub level_more : {A : Type 0} (f : A → ℕ) (found new : List A) (x : A) (left : ℕ) → deepest (map f found) ≤ left → new ≡ found ++ x ∷ [] → f x ≤ left → deepest (map f new) ≤ left
 level_more f found new x left a e b = omega (arith, deepest_append (map f found) (f x), ap deepest (map_push f found x), ap (λ xs. deepest (map f xs)) e)
 
-pub level_none : {A : Type 0} (f : A → ℕ) (found : List A) (left : ℕ) → found ≡ [] → deepest (map f found) ≤ left
-level_none f found left e = omega (arith, ap (λ xs. deepest (map f xs)) e)
-
 -- what is said of no parts
 pub nothing : {A : Type 0} (P : List A → Type 0) (found : List A) → found ≡ [] → P [] → P found
 nothing P found e h = subst P (sym e) h
