@@ -1,17 +1,38 @@
 -- Long brackets, and where a long string ends.
-use Rattle.std.proofs.Common.{◌≡◌, ◌≢◌, ℕ, zero, suc, ◌+◌, ◌-◌, ◌<◌, ◌≤◌, Bool, true, false, List, [], ◌∷◌, ◌++◌, length, get_or, take, drop, replicate, refl, sym, ap, subst, ◌∙◌, arith, inl, inr, append_assoc, length-append}
+use Rattle.std.proofs.Common.{◌≡◌, ◌≢◌, ◌↔◌, ℕ, zero, suc, ◌+◌, ◌-◌, ◌<◌, ◌≤◌, Bool, true, false, cond, eqb, List, [], ◌∷◌, ◌++◌, length, get_or, take, drop, replicate, refl, sym, ap, subst, ◌∙◌, arith, inl, inr, append_assoc, length-append}
 use Rattle.std.specs.Prelude.{◌==◌}
 use Rattle.std.specs.List.{prefix_len}
 use Rattle.std.proofs.lemmas.Bool.{and_parts, eqb-true, eq-eqb, cases_lt, false≢true}
-use Rattle.std.proofs.lemmas.List.{take-append-drop, take_at, drop_at, drop_all, get_or-drop, nil_from_length, length-replicate, length-take-le}
+use Rattle.std.proofs.lemmas.List.{take-append-drop, take_at, drop_at, drop_all, drop_more, get_or-drop, get_or_at, get_or_past, nil_from_length, length-replicate, length-take-le}
 use Rattle.memchr.specs.Find.{Nowhere, Passes, is_byte}
 use Rattle.luf_str.specs.Spelling.{opening, closing, IsLongSpelling}
-use Rattle.luf_str.proofs.LongLaws.{level_front, opening_length, closing_length}
-use Rattle.luf_str.proofs.Spelled.{bracket_front}
+use Rattle.luf_str.proofs.Leading.{prefix_len-whole}
+use Rattle.luf_str.proofs.LongLaws.{all_equals, level_front, opening_length, closing_length}
 use Rattle.luf_byte.specs.Front.{begins}
 use Rattle.luf_str.specs.LongEnd.{opens_long, IsOpenLong}
 
 -- ---- where a long bracket opens
+
+equals_front : (text : List ℕ) → take (prefix_len (λ b. b == 61) text) text ≡ replicate (prefix_len (λ b. b == 61) text) 61
+equals_front [] = refl
+equals_front (b ∷ text) =
+    elim (eqb b 61) as (λ t. eqb b 61 ≡ t → take (cond t (1 + prefix_len (λ b. b == 61) text) 0) (b ∷ text) ≡ replicate (cond t (1 + prefix_len (λ b. b == 61) text) 0) 61) [
+      | true ↦ λ yes. let e : 1 + prefix_len (λ b. b == 61) text ≡ suc (prefix_len (λ b. b == 61) text) = omega arith in
+          rw e (ap (λ x. x ∷ take (prefix_len (λ b. b == 61) text) text) (eqb-true b 61 yes) ∙ ap (λ xs. 61 ∷ xs) (equals_front text))
+      | false ↦ λ differs. refl
+    ] refl
+
+-- the signs and the byte behind them
+pub bracket_front : (text : List ℕ) (level c : ℕ) → level ≡ prefix_len (λ b. b == 61) text → get_or text level 0 ≡ suc c → text ≡ (replicate level 61 ++ suc c ∷ []) ++ drop (level + 1) text
+bracket_front text level c is at =
+    let inside : level < length text = elim (cases_lt level (length text)) [ inl lt ↦ lt | inr le ↦ absurd (omega (arith, get_or_past text level 0 le)) ] in
+    let front : take level text ≡ replicate level 61 = subst (λ k. take k text ≡ replicate k 61) (sym is) (equals_front text) in
+    let behind : drop level text ≡ suc c ∷ drop (level + 1) text = drop_more text level 0 inside ∙ ap (λ x. x ∷ drop (level + 1) text) at in
+    sym (take-append-drop level text) ∙ ap (λ t. t ++ drop level text) front ∙ ap (λ t. replicate level 61 ++ t) behind ∙ sym (append_assoc (replicate level 61) (suc c ∷ []) (drop (level + 1) text))
+
+pub cons_back : (text : List ℕ) (b : ℕ) → 0 < length text → get_or text 0 0 ≡ b → text ≡ b ∷ drop 1 text
+cons_back [] b some e = absurd (omega arith)
+cons_back (a ∷ text) b some e = ap (λ x. x ∷ text) e
 
 -- how many `=` stand behind the first byte
 abbrev pub level_of : List ℕ → ℕ
@@ -64,6 +85,25 @@ pub long_opens : (text : List ℕ) → IsLongSpelling text → opens_long text �
 long_opens text (n, body, long) = ap opens_long long.0 ∙ opening_opens n (body ++ closing n)
 
 -- ---- where it closes
+
+-- what closes has the signs and the byte
+closes_front : (text : List ℕ) (level : ℕ) (behind : List ℕ) → text ≡ closing level ++ behind → (get_or text 0 0 ≡ 93) × (prefix_len (λ b. b == 61) (drop 1 text) ≡ level) × (get_or (drop 1 text) level 0 ≡ 93)
+closes_front text level behind e =
+    let regrouped : drop 1 text ≡ replicate level 61 ++ 93 ∷ behind = ap (drop 1) e ∙ append_assoc (replicate level 61) (93 ∷ []) behind in (
+      ap (λ t. get_or t 0 0) e,
+      ap (prefix_len (λ b. b == 61)) regrouped ∙ prefix_len-whole (λ b. b == 61) (replicate level 61) (93 ∷ behind) (all_equals level) refl ∙ length-replicate {A = ℕ} level 61,
+      ap (λ t. get_or t level 0) regrouped ∙ get_or_at (replicate level 61) 93 behind 0 level (length-replicate {A = ℕ} level 61),
+    )
+
+-- whether a closing bracket of the level stands at the front
+pub closes_iff : (text behind : List ℕ) (level count last : ℕ) → get_or text 0 0 ≡ 93 → behind ≡ drop 1 text → count ≡ prefix_len (λ b. b == 61) behind → last ≡ get_or behind level 0
+    → ((count ≡ level) × (last ≡ 93)) ↔ ((rest : List ℕ) × (text ≡ closing level ++ rest))
+closes_iff text behind level count last first e n l = (
+  λ h. let some : 0 < length text = elim (cases_lt 0 (length text)) [ inl lt ↦ lt | inr le ↦ absurd (omega (arith, get_or_past text 0 0 le)) ] in
+      let front = bracket_front (drop 1 text) level 92 (sym h.0 ∙ n ∙ ap (prefix_len (λ b. b == 61)) e) (ap (λ t. get_or t level 0) (sym e) ∙ sym l ∙ h.1) in
+      (drop (level + 1) (drop 1 text), cons_back text 93 some first ∙ ap (λ t. 93 ∷ t) front),
+  λ h. let f = closes_front text level h.0 h.1 in (n ∙ ap (prefix_len (λ b. b == 61)) e ∙ f.1, l ∙ ap (λ t. get_or t level 0) e ∙ f.2),
+)
 
 -- no closing bracket of the level begins before a place
 abbrev pub NoneBelow : ℕ → List ℕ → ℕ → Type 0

@@ -12,4 +12,3 @@ pub mod Requoting
 pub mod Apart
 pub mod PartLaws
 pub mod BracketLaws
-pub mod Spelled

@@ -35,10 +35,6 @@ pub starts : (text : List ℕ) → 0 < length text → is_quote (get_or text 0 0
 starts [] some quote = absurd (omega arith)
 starts (q ∷ text) some quote = record { parts = []; quote = quote; are = tt; text = refl; place = refl; value = refl }
 
-pub starts_short : (spelling : List ℕ) → IsShortSpelling spelling → IsReadTo (get_or spelling 0 0) spelling 1 (drop 1 spelling) []
-starts_short spelling (q, quote, (units, cut)) =
-    subst (λ (t : List ℕ). IsReadTo (get_or t 0 0) t 1 (drop 1 t) []) (sym cut.1) (record { parts = []; quote = quote; are = tt; text = refl; place = refl; value = refl })
-
 one_more : (q : ℕ) (spelling : List ℕ) (at : ℕ) (done part next value : List ℕ) → IsReadTo q spelling at (part ++ next) done → IsPart q part next value → IsReadTo q spelling (at + length part) next (done ++ value)
 one_more q spelling at done part next value r is =
     let p : Part = record { spelling = part; value = value } in

@@ -1,6 +1,6 @@
 use Rattle.std.proofs.Common.{eq-eqb, refl}
 use Rattle.std.proofs.lemmas.Bool.{eqb-true, false≢true}
-use Rattle.luf_str.proofs.Spelled.{closes_iff}
+use Rattle.luf_str.proofs.BracketLaws.{closes_iff}
 use Rattle.luf_str.proofs.brackets.closes.Goals as goal
 
 pub returns-then-leading_equals-level : goal.returns-then-leading_equals-level
