@@ -10,8 +10,8 @@ ghost use Rattle.luf_work.specs.Source.{IsSource};
 ghost use Rattle.luf_work.specs.Text.{IsJoined, hash_text};
 ghost use Rattle.luf_work.specs.declared.refusal.Refusal.{Refusal as Cause};
 
-use crate::{Refusal, SOURCE_LIMIT, TEXT_LIMIT};
 use crate::text::{write_hash_line, write_tokens};
+use crate::{Refusal, SOURCE_LIMIT, TEXT_LIMIT};
 use luf_lex::{Cut, LexErr, cut};
 use luf_memory::Memory;
 use luf_parse::{ParseErr, parse};
