@@ -11,7 +11,8 @@ use Rattle.luf_num.specs.declared.Number.TheVariants.{Int, Float}
 use Rattle.luf_num.proofs.Forms.{is_no_x, no_x_in_decimal, list_all_parts}
 use Rattle.luf_str.specs.Bytes.{is_quote}
 use Rattle.luf_lex.specs.Byte.{is_letter, is_word_byte, begins}
-use Rattle.luf_lex.specs.First.{IsFirst, group_of, begins_numeral, begins_hexadecimal, numeral_tail, numeral_length, Numeric}
+use Rattle.luf_lex.specs.First.{IsFirst, group_of, begins_numeral, begins_hexadecimal, numeral_tail, numeral_length}
+use Rattle.luf_lex.specs.declared.group.Group.TheVariants.{Numeric}
 use Rattle.luf_lex.specs.declared.token.Tok.TheVariants.{Number as NumberTok}
 use Rattle.luf_lex.specs.declared.token.Kind.{Kind}
 use Rattle.luf_lex.specs.declared.token.Kind.TheVariants.{Token}

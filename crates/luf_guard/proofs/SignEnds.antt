@@ -6,7 +6,8 @@ use Rattle.luf_num.specs.Numeral.{is_decimal_mark}
 use Rattle.luf_lex.specs.Byte.{is_letter, begins}
 use Rattle.luf_lex.specs.Sign.{sign_spelling}
 use Rattle.luf_lex.specs.Spelling.{Spells}
-use Rattle.luf_lex.specs.First.{IsFirst, is_tried, group_of, numeral_tail, Numeric, Other}
+use Rattle.luf_lex.specs.First.{IsFirst, is_tried, group_of, numeral_tail}
+use Rattle.luf_lex.specs.declared.group.Group.TheVariants.{Numeric, Other}
 use Rattle.luf_lex.specs.declared.token.Tok.TheVariants as tok
 use Rattle.luf_lex.specs.declared.token.Sign.{Sign}
 use Rattle.luf_lex.specs.declared.token.Sign.TheVariants.{Minus, Slash, Tilde, ShiftLeft, ShiftRight, SlashSlash, Equal, NotEqual, LessEqual, GreaterEqual, Less, Greater, Assign, LeftBracket, DoubleColon, Colon, Dot, DotDot, Dots}

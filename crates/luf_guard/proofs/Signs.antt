@@ -8,7 +8,8 @@ use Rattle.luf_str.specs.Bytes.{is_line_byte}
 use Rattle.luf_lex.specs.Byte.{is_letter, is_blank, begins}
 use Rattle.luf_lex.specs.Sign.{sign_spelling, Begins}
 use Rattle.luf_lex.specs.Spelling.{opens_long}
-use Rattle.luf_lex.specs.First.{IsFirst, group_of, Other}
+use Rattle.luf_lex.specs.First.{IsFirst, group_of}
+use Rattle.luf_lex.specs.declared.group.Group.TheVariants.{Other}
 use Rattle.luf_lex.specs.declared.token.Tok.TheVariants as tok
 use Rattle.luf_lex.specs.declared.token.Sign.{Sign}
 use Rattle.luf_lex.specs.declared.token.Sign.TheVariants.{Plus, Minus, LeftBracket, Dot}

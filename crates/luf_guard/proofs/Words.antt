@@ -8,7 +8,8 @@ use Rattle.luf_num.specs.Digit.{is_digit}
 use Rattle.luf_str.specs.Bytes.{is_quote}
 use Rattle.luf_lex.specs.Byte.{is_letter, is_word_byte, begins}
 use Rattle.luf_lex.specs.Spelling.{Spells, opens_long}
-use Rattle.luf_lex.specs.First.{IsFirst, is_tried, group_of, begins_comment, begins_numeral, Quoted, Bracketed, Commented, Other, Numeric}
+use Rattle.luf_lex.specs.First.{IsFirst, is_tried, group_of, begins_comment, begins_numeral}
+use Rattle.luf_lex.specs.declared.group.Group.TheVariants.{Quoted, Bracketed, Commented, Other, Numeric}
 use Rattle.luf_lex.specs.declared.token.Tok.{Tok}
 use Rattle.luf_lex.specs.declared.token.Tok.TheVariants.{Name, Word}
 use Rattle.luf_lex.specs.declared.token.Kind.{Kind}

@@ -11,7 +11,8 @@ use Rattle.memchr.specs.Find.{is_byte2}
 use Rattle.luf_str.specs.Spelling.{IsLongSpelling}
 use Rattle.luf_lex.specs.Byte.{in_line}
 use Rattle.luf_lex.specs.Spelling.{opens_long, IsShortComment, IsLongComment}
-use Rattle.luf_lex.specs.First.{Commented, group_of, IsFirst, IsFault, IsOpenLong}
+use Rattle.luf_lex.specs.First.{group_of, IsFirst, IsFault, IsOpenLong}
+use Rattle.luf_lex.specs.declared.group.Group.TheVariants.{Commented}
 use Rattle.luf_lex.specs.First as fault
 use Rattle.luf_lex.specs.declared.fault.LexWhat.TheVariants.{OpenLong}
 use Rattle.luf_lex.specs.declared.token.Kind.TheVariants.{Comment}

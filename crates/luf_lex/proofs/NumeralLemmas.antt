@@ -8,7 +8,8 @@ use Rattle.luf_lex.specs.Byte.{is_letter, begins}
 use Rattle.luf_num.specs.Numeral.{is_decimal_mark, is_binary_mark, HasNumeralForm}
 use Rattle.luf_lex.specs.declared.token.Tok.TheVariants.{Number}
 use Rattle.luf_lex.specs.declared.token.Kind.TheVariants.{Token}
-use Rattle.luf_lex.specs.First.{numeral_tail, numeral_length, begins_hexadecimal, IsFirst, group_of, Numeric, is_tried, IsFault, bad_numeral}
+use Rattle.luf_lex.specs.First.{numeral_tail, numeral_length, begins_hexadecimal, IsFirst, group_of, is_tried, IsFault, bad_numeral}
+use Rattle.luf_lex.specs.declared.group.Group.TheVariants.{Numeric}
 use Rattle.luf_lex.specs.declared.fault.LexWhat.TheVariants.{BadNumeral}
 use Rattle.luf_lex.specs.Scan.{goes_on, mark_of, step_of}
 

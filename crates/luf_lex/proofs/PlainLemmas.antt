@@ -10,7 +10,8 @@ use Rattle.luf_lex.specs.Byte.{is_letter, is_word_byte, is_blank, begins}
 use Rattle.luf_lex.specs.Word.{word_spelling}
 use Rattle.luf_lex.specs.Sign.{sign_spelling, Begins}
 use Rattle.luf_lex.specs.Spelling.{Spells, IsLineEnd}
-use Rattle.luf_lex.specs.First.{IsFirst, HasNone, is_tried, group_of, Other}
+use Rattle.luf_lex.specs.First.{IsFirst, HasNone, is_tried, group_of}
+use Rattle.luf_lex.specs.declared.group.Group.TheVariants.{Other}
 use Rattle.luf_lex.specs.declared.token.Word.{Word as Keyword}
 use Rattle.luf_lex.specs.declared.token.Word.TheVariants.{And}
 use Rattle.luf_lex.specs.declared.token.Sign.{Sign as Mark}
@@ -166,7 +167,7 @@ line_end_first text n group first within spelled longest =
     plain_first text LineEnd n group refl (omega (arith, line_end_some (take n text) spelled, length-take n text)) within spelled
     (λ other m t more inside s. longest m more inside (line_spelled other (take m text) t s (begins_take is_line_byte text m (omega arith) ∙ first)))
 
-sign_some : (s : Mark) → 0 < length (sign_spelling s)
+pub sign_some : (s : Mark) → 0 < length (sign_spelling s)
 sign_some Plus = omega arith
 sign_some _ = omega arith
 

@@ -1,26 +1,20 @@
 -- The first piece of a text, and why a text has none.
-use Rattle.std.specs.Prelude.{◌≡◌, ◌≢◌, ℕ, ◌+◌, ◌<◌, ◌≤◌, ◌⊎◌, Bool, true, false, ◌==◌, ◌&&◌, ◌||◌, List, [], ◌∷◌, ◌++◌, length, take, drop, if◌then◌else◌, IsTrue}
+use Rattle.std.specs.Prelude.{◌≡◌, ◌≢◌, ℕ, ◌+◌, ◌<◌, ◌≤◌, Bool, true, false, ◌==◌, ◌&&◌, ◌||◌, List, [], ◌∷◌, length, take, drop, if◌then◌else◌}
 use Rattle.luf_num.specs.Digit.{is_digit, is_hex_digit}
 use Rattle.luf_num.specs.Numeral.{is_decimal_mark, is_binary_mark, HasNumeralForm}
-use Rattle.luf_str.specs.Bytes.{is_quote, is_line_byte}
-use Rattle.luf_str.specs.Escape.{NoEscape}
+use Rattle.luf_str.specs.Bytes.{is_quote}
 use Rattle.luf_str.specs.Spelling.{IsLongSpelling}
-use Rattle.luf_str.specs.Value.{Part, AreParts, spelling_of}
+use Rattle.luf_str.specs.ShortEnd.{IsShortEnd}
+use Rattle.luf_str.specs.declared.ends.ShortEnd.TheVariants as end
 use Rattle.luf_lex.specs.Byte.{is_letter, begins}
 use Rattle.luf_lex.specs.Spelling.{Spells, IsLongComment, opens_long}
+use Rattle.luf_lex.specs.declared.group.Group.{Group}
+use Rattle.luf_lex.specs.declared.group.Group.TheVariants.{Quoted, Bracketed, Commented, Numeric, Other}
 use Rattle.luf_lex.specs.declared.fault.LexWhat.{LexWhat}
 use Rattle.luf_lex.specs.declared.fault.LexWhat.TheVariants.{NoToken, BadNumeral, BadEscape, OpenString, OpenLong}
 use Rattle.luf_lex.specs.declared.token.Tok.TheVariants.{Name, Number, Short, Long, Word, Sign}
 use Rattle.luf_lex.specs.declared.token.Kind.{Kind}
 use Rattle.luf_lex.specs.declared.token.Kind.TheVariants.{Token, Comment, Blank, LineEnd}
-
--- What is tried at a place. Where a short string, a long bracket, a comment or a numeral begins, nothing else is.
-pub data Group : Type 0 where
-  Quoted : Group
-  Bracketed : Group
-  Commented : Group
-  Numeric : Group
-  Other : Group
 
 abbrev pub begins_comment : List ℕ → Bool
 begins_comment text = begins (λ b. b == 45) text && begins (λ b. b == 45) (drop 1 text)
@@ -90,19 +84,15 @@ HasNone text = (kind : Kind) (n : ℕ) → IsFirst text kind n → ⊥
 abbrev pub IsOpenLong : List ℕ → Type 0
 IsOpenLong text = (opens_long text ≡ true) × ((n : ℕ) → IsLongSpelling (take n text) → ⊥)
 
--- The inside of a string that stays open: the text's end, a line end, or a lone backslash at the text's end.
-abbrev pub IsOpenEnd : List ℕ → Type 0
-IsOpenEnd rest = (rest ≡ []) ⊎ (rest ≡ 92 ∷ []) ⊎ (begins is_line_byte rest ≡ true)
-
 -- Why a text has no first piece.
 pub data IsFault : List ℕ → LexWhat → Type 0 where
   -- the first byte begins no piece
   no_token : (text : List ℕ) → group_of text ≡ Other → HasNone text → IsFault text NoToken
   -- what was scanned has not the form of a numeral
   bad_numeral : (text : List ℕ) → group_of text ≡ Numeric → (HasNumeralForm (take (numeral_length text) text) → ⊥) → IsFault text BadNumeral
-  -- after a quote and parts of a string comes a backslash that begins no escape, or one that is cut
-  bad_escape : (q : ℕ) (parts : List Part) (next : List ℕ) → IsTrue (is_quote q) → AreParts q parts (92 ∷ next) → next ≢ [] → NoEscape next → IsFault (q ∷ (spelling_of parts ++ 92 ∷ next)) BadEscape
-  -- after a quote and parts of a string it stays open
-  open_string : (q : ℕ) (parts : List Part) (rest : List ℕ) → IsTrue (is_quote q) → AreParts q parts rest → IsOpenEnd rest → IsFault (q ∷ (spelling_of parts ++ rest)) OpenString
+  -- the string in quotes has a bad escape before its end
+  bad_escape : (text : List ℕ) (at : ℕ) → IsShortEnd text (end.Bad at) → IsFault text BadEscape
+  -- it stays open
+  open_string : (text : List ℕ) → IsShortEnd text end.Open → IsFault text OpenString
   open_long : (text : List ℕ) → IsOpenLong text → IsFault text OpenLong
   open_comment : (rest : List ℕ) → IsOpenLong rest → IsFault (45 ∷ 45 ∷ rest) OpenLong

@@ -3,7 +3,6 @@ pub mod Word
 pub mod Sign
 pub mod Spelling
 pub mod First
-pub mod Group
 pub mod Scan
 pub mod Cut
 pub mod Tokens

@@ -74,7 +74,7 @@ fn push_head(src: &[u8], pieces: &mut Vec<Piece>) -> Result<usize, Memory>
 }
 
 /// Where a mark and a `#` line at the start of a source end.
-pub(crate) fn head_len(src: &[u8]) -> usize
+fn head_len(src: &[u8]) -> usize
     ensures end { result ≡ head_end src.now }
     ensures within { result ≤ length src.now }
 {

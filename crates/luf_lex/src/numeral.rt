@@ -2,7 +2,8 @@
 ghost use Rattle.std.specs.Prelude.{◌≡◌, ◌<◌, ◌≤◌, ◌-◌, if◌then◌else◌, IsTrue, MatchResult, length};
 ghost use Rattle.luf_num.specs.Digit as digit;
 ghost use Rattle.luf_lex.specs.Byte.{is_letter, begins};
-ghost use Rattle.luf_lex.specs.First.{IsFirst, IsFault, group_of, Numeric, numeral_tail, numeral_length};
+ghost use Rattle.luf_lex.specs.First.{IsFirst, IsFault, group_of, numeral_tail, numeral_length};
+ghost use Rattle.luf_lex.specs.declared.group.Group.TheVariants.{Numeric};
 ghost use Rattle.luf_lex.specs.Scan.{mark_of, step_of};
 
 use crate::{Kind, LexWhat, Tok, byte};

@@ -12,9 +12,6 @@ use luf_memory::Memory;
 use std::alloc::Global;
 use std::marker::Model;
 
-#[cfg(test)]
-mod tests;
-
 /// The pieces of a source, in order. A contract sees it as their list.
 #[derive(Debug, Drop)]
 pub struct Cut {

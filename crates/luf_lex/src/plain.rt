@@ -2,7 +2,8 @@
 ghost use Rattle.std.specs.Prelude.{◌≡◌, ◌<◌, ◌≤◌, ℕ, true, length, take, MatchOption};
 ghost use Rattle.luf_str.specs.Bytes as bytes;
 ghost use Rattle.luf_lex.specs.Byte as byte;
-ghost use Rattle.luf_lex.specs.First.{IsFirst, HasNone, group_of, Other};
+ghost use Rattle.luf_lex.specs.First.{IsFirst, HasNone, group_of};
+ghost use Rattle.luf_lex.specs.declared.group.Group.TheVariants.{Other};
 ghost use Rattle.luf_lex.specs.Spelling.{IsLineEnd};
 
 use crate::byte::{blank_run, is_blank, is_letter, is_line_byte, word_run};

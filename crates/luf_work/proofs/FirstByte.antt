@@ -7,7 +7,9 @@ use Rattle.luf_str.specs.Bytes.{is_quote, is_line_byte}
 use Rattle.luf_lex.specs.Byte.{is_letter, is_word_byte, is_blank, begins}
 use Rattle.luf_lex.specs.Sign.{sign_spelling}
 use Rattle.luf_lex.specs.Spelling.{Spells, opens_long}
-use Rattle.luf_lex.specs.First.{Group, Quoted, Bracketed, Commented, Numeric, Other, IsFirst, is_tried, group_of, begins_comment, begins_numeral}
+use Rattle.luf_lex.specs.First.{IsFirst, is_tried, group_of, begins_comment, begins_numeral}
+use Rattle.luf_lex.specs.declared.group.Group.{Group}
+use Rattle.luf_lex.specs.declared.group.Group.TheVariants.{Quoted, Bracketed, Commented, Numeric, Other}
 use Rattle.luf_lex.specs.declared.token.Tok.{Tok}
 use Rattle.luf_lex.specs.declared.token.Tok.TheVariants.{Name, Number, Short, Long, Word, Sign}
 use Rattle.luf_lex.specs.declared.token.Sign.{Sign as Mark}

@@ -9,7 +9,9 @@ use Rattle.std.proofs.lemmas.List.{length-map}
 use Rattle.luf_str.specs.Bytes.{is_line_byte}
 use Rattle.luf_lex.specs.Byte.{in_line, begins}
 use Rattle.luf_lex.specs.Spelling.{Spells, IsLineEnd, IsHashLine}
-use Rattle.luf_lex.specs.First.{Group, Quoted, IsFirst, is_tried, group_of}
+use Rattle.luf_lex.specs.First.{IsFirst, is_tried, group_of}
+use Rattle.luf_lex.specs.declared.group.Group.{Group}
+use Rattle.luf_lex.specs.declared.group.Group.TheVariants.{Quoted}
 use Rattle.luf_lex.specs.Cut.{Cuts, IsCut, mark_length, hash_length, head_of, head_end}
 use Rattle.luf_lex.specs.Tokens.{tokens_of, toks_of, spellings_of}
 use Rattle.luf_lex.specs.declared.token.Tok.{Tok}
