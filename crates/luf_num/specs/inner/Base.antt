@@ -1,6 +1,6 @@
 -- The two bases of numerals, as tests of bytes.
 use Rattle.std.specs.Prelude.{ℕ, Bool}
-use Rattle.luf_num.specs.Digit.{is_digit, is_hex_digit}
+use Rattle.luf_byte.specs.Class.{is_digit, is_hex_digit}
 use Rattle.luf_num.specs.Numeral.{is_decimal_mark, is_binary_mark}
 use Rattle.luf_num.specs.declared.form.Base.{Base}
 use Rattle.luf_num.specs.declared.form.Base.TheVariants.{Decimal, Hexadecimal}
