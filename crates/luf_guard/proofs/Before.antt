@@ -2,7 +2,8 @@
 use Rattle.std.proofs.Common.{◌≡◌, ℕ, ◌<◌, true, false, eqb, List, [], ◌∷◌, ◌++◌, length, drop, refl, sym, ap, ◌∙◌, subst, arith}
 use Rattle.std.specs.List.{prefix_len}
 use Rattle.std.proofs.lemmas.Bool.{false_from_ne_true, false≢true}
-use Rattle.luf_lex.specs.Byte.{is_letter, is_word_byte, begins}
+use Rattle.luf_byte.specs.Class.{is_letter, is_word_byte}
+use Rattle.luf_byte.specs.Front.{begins}
 use Rattle.luf_lex.specs.Spelling.{Spells, opens_long}
 use Rattle.luf_lex.specs.First.{IsFirst}
 use Rattle.luf_lex.specs.declared.token.Tok.{Tok}

@@ -3,9 +3,9 @@ use Rattle.std.proofs.Common.{◌≡◌, ℕ, ◌<◌, ◌⊎◌, ◌↔◌, inl
 use Rattle.std.specs.Prelude.{IsTrue}
 use Rattle.std.proofs.lemmas.Bool.{and_left, and_parts, or_cases, or_from, cond-true, cond-false, eqb-true, false≢true}
 use Rattle.std.proofs.lemmas.Bool.Decides.{nat_tests}
-use Rattle.luf_num.specs.Digit.{is_digit}
+use Rattle.luf_byte.specs.Class.{is_digit, is_letter, is_word_byte, is_blank}
 use Rattle.luf_str.specs.Bytes.{is_quote}
-use Rattle.luf_lex.specs.Byte.{is_letter, is_word_byte, is_blank, begins}
+use Rattle.luf_byte.specs.Front.{begins}
 use Rattle.luf_lex.specs.Sign.{sign_spelling}
 use Rattle.luf_lex.specs.Spelling.{Spells, opens_long}
 use Rattle.luf_lex.specs.First.{IsFirst, begins_numeral}

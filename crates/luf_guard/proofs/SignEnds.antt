@@ -1,9 +1,9 @@
 -- Signs before what makes a longer piece of them.
 use Rattle.std.proofs.Common.{◌≡◌, ℕ, ◌+◌, ◌<◌, ◌≤◌, ◌⊎◌, inl, inr, true, eqb, List, [], ◌∷◌, ◌++◌, length, take, refl, sym, ap, ◌∙◌, subst, arith}
 use Rattle.std.proofs.lemmas.Bool.{or_cases, or_left, or_right, eqb-true, false≢true}
-use Rattle.luf_num.specs.Digit.{is_digit}
+use Rattle.luf_byte.specs.Class.{is_digit, is_letter}
 use Rattle.luf_num.specs.Numeral.{is_decimal_mark}
-use Rattle.luf_lex.specs.Byte.{is_letter, begins}
+use Rattle.luf_byte.specs.Front.{begins}
 use Rattle.luf_lex.specs.Sign.{sign_spelling}
 use Rattle.luf_lex.specs.Spelling.{Spells}
 use Rattle.luf_lex.specs.First.{IsFirst, is_tried, group_of, numeral_tail}

@@ -3,9 +3,8 @@ use Rattle.std.proofs.Common.{◌≡◌, ℕ, ◌<◌, ◌≤◌, Bool, true, fa
 use Rattle.std.proofs.Math.Seq.{take-append_seam}
 use Rattle.std.proofs.lemmas.Bool.{and_from, cond-true, cond-false, or_parts, lt-ltb, false≢true}
 use Rattle.std.proofs.lemmas.Bool.Decides.{nat_tests}
-use Rattle.luf_num.specs.Digit.{is_digit}
-use Rattle.luf_str.specs.Bytes.{is_line_byte}
-use Rattle.luf_lex.specs.Byte.{is_letter, is_blank, begins}
+use Rattle.luf_byte.specs.Class.{is_digit, is_line_byte, is_letter, is_blank}
+use Rattle.luf_byte.specs.Front.{begins}
 use Rattle.luf_lex.specs.Sign.{sign_spelling, Begins}
 use Rattle.luf_lex.specs.Spelling.{opens_long}
 use Rattle.luf_lex.specs.First.{IsFirst, group_of}

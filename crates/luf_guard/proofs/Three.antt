@@ -5,7 +5,8 @@ use Rattle.std.specs.List.{prefix_len}
 use Rattle.std.proofs.Math.Seq.{drop-append_seam, drop-drop}
 use Rattle.std.proofs.lemmas.Bool.{cond-false}
 use Rattle.luf_text.specs.declared.Span.{Span}
-use Rattle.luf_lex.specs.Byte.{is_blank, begins}
+use Rattle.luf_byte.specs.Class.{is_blank}
+use Rattle.luf_byte.specs.Front.{begins}
 use Rattle.luf_lex.specs.First.{IsFirst}
 use Rattle.luf_lex.specs.Cut.{Cuts}
 use Rattle.luf_lex.specs.declared.token.Kind.{Kind}

@@ -1,8 +1,8 @@
 -- What a token would go on over, as functions. Only private functions and lemmas cite these; the laws in proofs/ tie them
 -- to the cut.
 use Rattle.std.specs.Prelude.{ℕ, Bool, false, ◌||◌, ◌&&◌, ◌==◌, List, [], ◌∷◌, if◌then◌else◌}
-use Rattle.luf_num.specs.Digit.{is_digit}
-use Rattle.luf_lex.specs.Byte.{is_letter, is_word_byte, begins}
+use Rattle.luf_byte.specs.Class.{is_digit, is_letter, is_word_byte}
+use Rattle.luf_byte.specs.Front.{begins}
 use Rattle.luf_lex.specs.First.{begins_numeral}
 use Rattle.luf_lex.specs.declared.token.Tok.{Tok}
 use Rattle.luf_lex.specs.declared.token.Tok.TheVariants.{Name, Number, Word, Sign}

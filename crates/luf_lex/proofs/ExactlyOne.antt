@@ -3,7 +3,8 @@ use Rattle.std.proofs.Common.{ℕ, zero, suc, ◌+◌, ◌≤◌, ◌⊎◌, Boo
 use Rattle.std.specs.List.{prefix_len}
 use Rattle.std.proofs.lemmas.Bool.{cases_lt}
 use Rattle.std.proofs.lemmas.List.Sums.{prefix_len-le-length}
-use Rattle.luf_lex.specs.Byte.{in_line, begins}
+use Rattle.luf_byte.specs.Class.{in_line}
+use Rattle.luf_byte.specs.Front.{begins}
 use Rattle.luf_lex.specs.Cut.{Cuts, IsCut, IsLexFault, mark_length, hash_length, head_end, head_of}
 use Rattle.luf_lex.specs.declared.fault.LexWhat.{LexWhat}
 use Rattle.luf_lex.specs.declared.token.Piece.{Piece}

@@ -4,7 +4,8 @@ use Rattle.std.proofs.lemmas.Bool.{cases_order, false≢true, and_parts, eqb-tru
 use Rattle.std.proofs.lemmas.Bool.Decides.{nat_tests}
 use Rattle.std.proofs.lemmas.List.{take-append-drop}
 use Rattle.luf_num.specs.Numeral.{HasNumeralForm}
-use Rattle.luf_str.specs.Bytes.{is_line_byte, is_quote, is_plain}
+use Rattle.luf_byte.specs.Class.{is_line_byte}
+use Rattle.luf_str.specs.Bytes.{is_quote, is_plain}
 use Rattle.luf_str.specs.Pieces.{IsLineEnd}
 use Rattle.luf_str.specs.Escape.{IsEscape, NoEscape}
 use Rattle.luf_str.specs.Escape as escape_rule

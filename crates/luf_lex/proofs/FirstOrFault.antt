@@ -4,14 +4,14 @@ use Rattle.std.specs.List.{prefix_len}
 use Rattle.std.proofs.lemmas.Bool.{cases_Bool, or_cases, and_parts, eqb-true, false≢true}
 use Rattle.std.proofs.lemmas.List.{length-take-le}
 use Rattle.std.proofs.lemmas.List.Sums.{prefix_len-le-length}
-use Rattle.luf_num.specs.Digit.{is_hex_digit}
+use Rattle.luf_byte.specs.Class.{is_hex_digit, is_line_byte, is_letter, is_word_byte, is_blank, in_line}
 use Rattle.luf_num.specs.Numeral.{is_decimal_mark, is_binary_mark}
-use Rattle.luf_str.specs.Bytes.{is_line_byte}
 use Rattle.luf_str.specs.declared.ends.ShortEnd.{ShortEnd}
 use Rattle.luf_str.specs.declared.ends.ShortEnd.TheVariants as end
 use Rattle.luf_str.specs.ShortEnd.{IsShortEnd}
-use Rattle.luf_lex.specs.Byte.{is_letter, is_word_byte, is_blank, in_line, begins}
-use Rattle.luf_lex.specs.Spelling.{IsLineEnd, opens_long}
+use Rattle.luf_byte.specs.Front.{begins}
+use Rattle.luf_byte.specs.LineEnd.{line_end_length}
+use Rattle.luf_lex.specs.Spelling.{opens_long}
 use Rattle.luf_lex.specs.Sign.{sign_spelling}
 use Rattle.luf_lex.specs.First.{group_of, begins_hexadecimal, numeral_tail, numeral_length, IsFirst, IsFault, no_token, bad_escape, open_string, open_long}
 use Rattle.luf_lex.specs.declared.group.Group.{Group}
@@ -111,57 +111,6 @@ numeric text group =
       | inr none ↦ inr (_, numeral_fault text (numeral_length text) group refl none)
     ]
 
--- ---- a line end
-
-line_size : (a : List ℕ) → IsLineEnd a → length a ≤ 2
-line_size a (inl e) = omega (arith, ap length e)
-line_size a (inr (inl e)) = omega (arith, ap length e)
-line_size a (inr (inr (inl e))) = omega (arith, ap length e)
-line_size a (inr (inr (inr e))) = omega (arith, ap length e)
-
-pair_or_not : (a b : ℕ) → Decided (IsLineEnd (a ∷ b ∷ []))
-pair_or_not a b =
-    elim (same_or_not (a ∷ b ∷ []) (10 ∷ 13 ∷ [])) [
-      | inl e ↦ inl (inr (inr (inl e)))
-      | inr other ↦ elim (same_or_not (a ∷ b ∷ []) (13 ∷ 10 ∷ [])) [
-        | inl e ↦ inl (inr (inr (inr e)))
-        | inr else ↦ inr (λ h. neither other else h)
-      ]
-    ]
-  where
-    neither : (a ∷ b ∷ [] ≡ 10 ∷ 13 ∷ [] → ⊥) → (a ∷ b ∷ [] ≡ 13 ∷ 10 ∷ [] → ⊥) → IsLineEnd (a ∷ b ∷ []) → ⊥
-    neither other else (inl e) = omega (arith, ap length e)
-    neither other else (inr (inl e)) = omega (arith, ap length e)
-    neither other else (inr (inr (inl e))) = other e
-    neither other else (inr (inr (inr e))) = else e
-
-lone_line_end : (b : ℕ) → is_line_byte b ≡ true → IsLineEnd (b ∷ [])
-lone_line_end b h =
-    elim (or_cases (eqb b 10) (eqb b 13) h) [
-      | inl e ↦ inl (ap (λ x. x ∷ []) (eqb-true b 10 e))
-      | inr e ↦ inr (inl (ap (λ x. x ∷ []) (eqb-true b 13 e)))
-    ]
-
-abbrev LongestLineEnd : List ℕ → Type 0
-LongestLineEnd text = (n : ℕ) × (n ≤ length text) × IsLineEnd (take n text) × ((m : ℕ) → n < m → m ≤ length text → IsLineEnd (take m text) → ⊥)
-
-longest_line_end : (text : List ℕ) → begins is_line_byte text ≡ true → LongestLineEnd text
-longest_line_end [] h = absurd (false≢true h)
-longest_line_end (b ∷ []) h = (1, omega arith, lone_line_end b h, λ m more within line. omega arith)
-longest_line_end (b ∷ c ∷ rest) h =
-    let at_most : (m : ℕ) → m ≤ length (b ∷ c ∷ rest) → IsLineEnd (take m (b ∷ c ∷ rest)) → m ≤ 2 = λ m within line. omega (arith, line_size (take m (b ∷ c ∷ rest)) line, length-take-le m (b ∷ c ∷ rest) within) in
-    elim (pair_or_not b c) [
-      | inl pair ↦ (2, omega arith, pair, λ m more within line. omega (arith, at_most m within line))
-      | inr lone ↦ (
-        1,
-        omega arith,
-        lone_line_end b h,
-        λ m more within line.
-            let two : m ≡ 2 = omega (arith, at_most m within line) in
-            lone (subst (λ i. IsLineEnd (take i (b ∷ c ∷ rest))) two line),
-      )
-    ]
-
 -- ---- where none of these begins
 
 word : (text : List ℕ) → group_of text ≡ Other → begins is_letter text ≡ true → HasPiece text
@@ -186,7 +135,7 @@ other text group =
       | inr no_letter ↦ elim (cases_Bool (begins is_blank text)) [
         | inl blank ↦ inl (_, _, blank_first text (prefix_len is_blank text) group blank refl)
         | inr no_blank ↦ elim (cases_Bool (begins is_line_byte text)) [
-          | inl line ↦ let h = longest_line_end text line in inl (_, h.0, line_end_first text h.0 group line h.1 h.2 h.3)
+          | inl line ↦ inl (_, _, line_end_first text (line_end_length text) group line refl)
           | inr no_line ↦ sign text group no_letter no_blank no_line
         ]
       ]

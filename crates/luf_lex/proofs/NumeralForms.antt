@@ -4,14 +4,15 @@ use Rattle.std.specs.Prelude.{◌^◌, pos, ◌%◌}
 use Rattle.std.specs.List.{list_all, prefix_len}
 use Rattle.std.specs.Int.{cast_signed, w64}
 use Rattle.std.proofs.lemmas.Bool.{cases_Bool, cases_lt, false≢true}
-use Rattle.luf_num.specs.Digit.{value_in, is_digit, is_hex_digit}
-use Rattle.luf_num.specs.Base.{is_digit_in, is_mark_in}
+use Rattle.std.specs.Str.Parse.{digits_value}
+use Rattle.luf_byte.specs.Class.{is_digit, is_hex_digit}
+use Rattle.luf_num.specs.inner.Base.{is_digit_in, is_mark_in}
 use Rattle.luf_num.specs.declared.Number.{Number}
 use Rattle.luf_num.specs.declared.Number.TheVariants.{Int, Float}
 use Rattle.luf_num.specs.declared.form.Base.{Base}
 use Rattle.luf_num.specs.declared.form.Base.TheVariants.{Decimal, Hexadecimal}
 use Rattle.luf_num.specs.Numeral.{IsDigits, IsHexPrefix, IsExponent, HasFloatForm, IsDecimal, IsHexRest, HasNumeralForm, is_decimal_mark, is_binary_mark}
-use Rattle.luf_num.specs.Parts.{SplitsFirst, is_point, is_sign}
+use Rattle.luf_num.specs.inner.Parts.{SplitsFirst, is_point, is_sign}
 use Rattle.luf_num.proofs.Forms.{none_behind_prefix, form_without_prefix}
 use Rattle.luf_lex.proofs.Decided.{Decided, same_or_not}
 use Rattle.luf_num.proofs.Scanning.{splits_at_prefix, exponent_from_cut, cut_from_exponent, CutHasForm, form_from_parts, parts_from_form}
@@ -88,7 +89,7 @@ float_or_not base s =
 hex_rest_or_not : (s : List ℕ) → Decided ((n : Number) × IsHexRest s n)
 hex_rest_or_not s =
     elim (digits_or_not is_hex_digit s) [
-      | inl digits ↦ inl (Int (cast_signed w64 (value_in 16 s % 2 ^ 64)), record { digits = digits; value = refl })
+      | inl digits ↦ inl (Int (cast_signed w64 (digits_value 16 s % 2 ^ 64)), record { digits = digits; value = refl })
       | inr fails ↦ elim (float_or_not Hexadecimal s) [
         | inl form ↦ inl (Float, form)
         | inr neither ↦ inr (λ h. by_number fails neither h.0 h.1)
@@ -102,8 +103,8 @@ hex_rest_or_not s =
 decimal_or_not : (s : List ℕ) → Decided ((n : Number) × IsDecimal s n)
 decimal_or_not s =
     elim (digits_or_not is_digit s) [
-      | inl digits ↦ elim (cases_lt (value_in 10 s) (2 ^ 63)) [
-        | inl small ↦ inl (Int (pos (value_in 10 s)), record { digits = digits; small = small; value = refl })
+      | inl digits ↦ elim (cases_lt (digits_value 10 s) (2 ^ 63)) [
+        | inl small ↦ inl (Int (pos (digits_value 10 s)), record { digits = digits; small = small; value = refl })
         | inr large ↦ inl (Float, inl (record { digits = digits; large = large }))
       ]
       | inr fails ↦ elim (float_or_not Decimal s) [

@@ -1,10 +1,9 @@
 -- The scan of a numeral, step by step.
-use Rattle.std.proofs.Common.{◌≡◌, ℕ, zero, suc, ◌+◌, ◌-◌, ◌<◌, ◌≤◌, Bool, true, false, cond, ◌&&◌, ◌||◌, eqb, List, [], ◌∷◌, length, take, drop, refl, sym, ap, ◌∙◌, subst, arith, get_or}
-use Rattle.std.proofs.Common.{◌⊎◌, inl, inr}
+use Rattle.std.proofs.Common.{◌≡◌, ℕ, zero, suc, ◌+◌, ◌-◌, ◌<◌, ◌≤◌, Bool, true, false, cond, ◌&&◌, ◌||◌, eqb, List, [], ◌∷◌, length, take, drop, refl, sym, ap, ◌∙◌, subst, arith, get_or, ◌⊎◌, inl, inr}
 use Rattle.std.proofs.lemmas.Bool.{or_cases, eqb-true}
 use Rattle.std.proofs.lemmas.List.{drop-drop, drop_all}
-use Rattle.luf_num.specs.Digit.{is_hex_digit}
-use Rattle.luf_lex.specs.Byte.{is_letter, begins}
+use Rattle.luf_byte.specs.Class.{is_hex_digit, is_letter}
+use Rattle.luf_byte.specs.Front.{begins}
 use Rattle.luf_num.specs.Numeral.{is_decimal_mark, is_binary_mark, HasNumeralForm}
 use Rattle.luf_lex.specs.declared.token.Tok.TheVariants.{Number}
 use Rattle.luf_lex.specs.declared.token.Kind.TheVariants.{Token}

@@ -5,7 +5,8 @@ use Rattle.std.specs.List.{All, prefix_len, starts_with}
 use Rattle.std.proofs.lemmas.Bool.{and_parts, eqb-true, false≢true}
 use Rattle.std.proofs.lemmas.Bool.Decides.{nat_tests}
 use Rattle.std.proofs.lemmas.List.Elements.{All-append, All-cons}
-use Rattle.luf_lex.specs.Byte.{in_line, begins}
+use Rattle.luf_byte.specs.Class.{in_line}
+use Rattle.luf_byte.specs.Front.{begins}
 use Rattle.luf_lex.specs.Spelling.{Spells, IsHashLine}
 use Rattle.luf_lex.specs.First.{IsFirst}
 use Rattle.luf_lex.specs.Cut.{Cuts, IsCut, mark_length, head_end, head_of}

@@ -7,7 +7,8 @@ use Rattle.luf_str.specs.declared.fronts.Front.{Front}
 use Rattle.luf_str.specs.declared.fronts.Front.TheVariants as front
 use Rattle.luf_str.specs.declared.ends.ShortEnd.{ShortEnd}
 use Rattle.luf_str.specs.declared.ends.ShortEnd.TheVariants as end
-use Rattle.luf_str.specs.Bytes.{is_quote, is_line_byte}
+use Rattle.luf_str.specs.Bytes.{is_quote}
+use Rattle.luf_byte.specs.Class.{is_line_byte}
 use Rattle.luf_str.specs.Front.{IsFront}
 use Rattle.luf_str.specs.Reading.{escape_at}
 use Rattle.luf_str.specs.ShortEnd.{IsShortEnd}

@@ -1,7 +1,8 @@
 -- The cut of a source into pieces, and its lexical fault.
 use Rattle.std.specs.Prelude.{◌≡◌, ℕ, ◌+◌, ◌-◌, ◌<◌, ◌≤◌, ◌==◌, List, [], ◌∷◌, ◌++◌, length, drop, if◌then◌else◌, nat_eq}
 use Rattle.std.specs.List.{prefix_len, starts_with}
-use Rattle.luf_lex.specs.Byte.{in_line, begins}
+use Rattle.luf_byte.specs.Class.{in_line}
+use Rattle.luf_byte.specs.Front.{begins}
 use Rattle.luf_lex.specs.First.{IsFirst, IsFault}
 use Rattle.luf_lex.specs.declared.fault.LexWhat.{LexWhat}
 use Rattle.luf_lex.specs.declared.fault.LexErr.{LexErr}

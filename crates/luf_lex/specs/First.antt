@@ -1,12 +1,12 @@
 -- The first piece of a text, and why a text has none.
 use Rattle.std.specs.Prelude.{◌≡◌, ◌≢◌, ℕ, ◌+◌, ◌<◌, ◌≤◌, Bool, true, false, ◌==◌, ◌&&◌, ◌||◌, List, [], ◌∷◌, length, take, drop, if◌then◌else◌}
-use Rattle.luf_num.specs.Digit.{is_digit, is_hex_digit}
+use Rattle.luf_byte.specs.Class.{is_digit, is_hex_digit, is_letter}
 use Rattle.luf_num.specs.Numeral.{is_decimal_mark, is_binary_mark, HasNumeralForm}
 use Rattle.luf_str.specs.Bytes.{is_quote}
 use Rattle.luf_str.specs.Spelling.{IsLongSpelling}
 use Rattle.luf_str.specs.ShortEnd.{IsShortEnd}
 use Rattle.luf_str.specs.declared.ends.ShortEnd.TheVariants as end
-use Rattle.luf_lex.specs.Byte.{is_letter, begins}
+use Rattle.luf_byte.specs.Front.{begins}
 use Rattle.luf_lex.specs.Spelling.{Spells, IsLongComment, opens_long}
 use Rattle.luf_lex.specs.declared.group.Group.{Group}
 use Rattle.luf_lex.specs.declared.group.Group.TheVariants.{Quoted, Bracketed, Commented, Numeric, Other}

@@ -1,4 +1,3 @@
-pub mod Byte
 pub mod Word
 pub mod Sign
 pub mod Spelling

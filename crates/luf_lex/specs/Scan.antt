@@ -1,6 +1,6 @@
 -- One step of the scan of a numeral.
 use Rattle.std.specs.Prelude.{ℕ, ◌-◌, Bool, ◌==◌, ◌&&◌, ◌||◌, List, [], ◌∷◌, if◌then◌else◌}
-use Rattle.luf_num.specs.Digit.{is_hex_digit}
+use Rattle.luf_byte.specs.Class.{is_hex_digit}
 
 -- a mark of an exponent, by its small letter
 abbrev pub mark_of : ℕ → ℕ → Bool

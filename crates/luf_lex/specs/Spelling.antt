@@ -4,7 +4,8 @@ use Rattle.std.specs.List.{list_all, prefix_len}
 use Rattle.luf_num.specs.Numeral.{HasNumeralForm}
 use Rattle.luf_str.specs.Spelling.{IsLongSpelling}
 use Rattle.luf_str.specs.Value.{IsShortValue}
-use Rattle.luf_lex.specs.Byte.{is_letter, is_word_byte, is_blank, in_line, begins}
+use Rattle.luf_byte.specs.Class.{is_letter, is_word_byte, is_blank, in_line}
+use Rattle.luf_byte.specs.Front.{begins}
 use Rattle.luf_lex.specs.Word.{word_spelling}
 use Rattle.luf_lex.specs.Sign.{sign_spelling}
 use Rattle.luf_lex.specs.declared.token.Word.{Word as Keyword}

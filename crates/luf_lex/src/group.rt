@@ -2,10 +2,10 @@
 ghost use Rattle.std.specs.Prelude.{◌≡◌};
 ghost use Rattle.luf_lex.specs.First as first;
 ghost use Rattle.luf_str.specs.Bytes.{is_quote};
-ghost use Rattle.luf_lex.specs.Byte.{begins};
+ghost use Rattle.luf_byte.specs.Front.{begins};
 
 use crate::bracket::opens_long;
-use crate::byte::is_digit;
+use luf_byte::is_digit;
 
 /// What is tried at a place of a source: where a short string, a long bracket, a comment or a numeral begins,
 /// nothing else is.

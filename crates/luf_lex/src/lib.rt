@@ -2,7 +2,6 @@
 #![tactic(auto)]
 
 mod bracket;
-mod byte;
 mod comment;
 mod cutting;
 mod fault;

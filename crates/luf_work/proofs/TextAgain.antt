@@ -6,9 +6,10 @@ use Rattle.std.proofs.Math.Seq.{take-append_seam, drop-append_seam, drop-drop}
 use Rattle.std.proofs.lemmas.Bool.{cond-true, cond-false, and_left, false≢true}
 use Rattle.std.proofs.lemmas.Bool.Decides.{nat_tests}
 use Rattle.std.proofs.lemmas.List.{length-map}
-use Rattle.luf_str.specs.Bytes.{is_line_byte}
-use Rattle.luf_lex.specs.Byte.{in_line, begins}
-use Rattle.luf_lex.specs.Spelling.{Spells, IsLineEnd, IsHashLine}
+use Rattle.luf_byte.specs.Class.{is_line_byte, in_line}
+use Rattle.luf_byte.specs.Front.{begins}
+use Rattle.luf_lex.specs.Spelling.{Spells, IsHashLine}
+use Rattle.luf_byte.specs.LineEnd.{IsLineEnd}
 use Rattle.luf_lex.specs.First.{IsFirst, is_tried, group_of}
 use Rattle.luf_lex.specs.declared.group.Group.{Group}
 use Rattle.luf_lex.specs.declared.group.Group.TheVariants.{Quoted}
