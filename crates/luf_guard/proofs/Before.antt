@@ -14,7 +14,7 @@ use Rattle.luf_lex.specs.declared.token.Kind.TheVariants.{Token}
 use Rattle.luf_lex.proofs.RunLemmas.{begins_weaker}
 use Rattle.luf_lex.proofs.PlainLemmas.{keyword_letter, letter_is_word, word_spelled}
 use Rattle.luf_guard.specs.Space.{StandApart}
-use Rattle.luf_guard.specs.Joins.{goes_on}
+use Rattle.luf_guard.specs.inner.Joins.{goes_on}
 use Rattle.luf_guard.proofs.Words.{begins_some, begins_front, run_before, letters_before, word_ends}
 use Rattle.luf_guard.proofs.Numerals.{numeral_some, numeral_before, numeral_ends}
 use Rattle.luf_guard.proofs.Strings.{short_some, short_before, long_some, long_before}

@@ -17,7 +17,7 @@ use Rattle.luf_lex.specs.declared.token.Tok.TheVariants.{Number as NumberTok}
 use Rattle.luf_lex.specs.declared.token.Kind.{Kind}
 use Rattle.luf_lex.specs.declared.token.Kind.TheVariants.{Token}
 use Rattle.luf_lex.proofs.NumeralLemmas.{numeral_first}
-use Rattle.luf_guard.specs.Joins.{goes_word}
+use Rattle.luf_guard.specs.inner.Joins.{goes_word}
 use Rattle.luf_guard.proofs.Words.{group_is}
 
 -- ---- where the scan goes on

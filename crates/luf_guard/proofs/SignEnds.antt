@@ -14,7 +14,7 @@ use Rattle.luf_lex.specs.declared.token.Sign.TheVariants.{Minus, Slash, Tilde, S
 use Rattle.luf_lex.specs.declared.token.Kind.{Kind}
 use Rattle.luf_lex.specs.declared.token.Kind.TheVariants.{Token, Comment}
 use Rattle.luf_lex.proofs.LoneKind.{commented_kind, bracketed_kind}
-use Rattle.luf_guard.specs.Joins.{goes_word, sign_goes_on}
+use Rattle.luf_guard.specs.inner.Joins.{goes_word, sign_goes_on}
 use Rattle.luf_guard.proofs.Numerals.{numeral_group, tail_some}
 use Rattle.luf_guard.proofs.Strings.{long_some}
 

@@ -3,15 +3,15 @@ ghost use Rattle.std.specs.Prelude.{◌≡◌, ◌↔◌, IsTrue, false};
 ghost use Rattle.luf_byte.specs.Class as class;
 ghost use Rattle.luf_byte.specs.Front.{begins};
 ghost use Rattle.luf_lex.specs.First as first;
-ghost use Rattle.luf_guard.specs.Joins as spec;
-ghost use Rattle.luf_guard.specs.Space.{IsSpelling, NeedSpace, StandApart};
+ghost use Rattle.luf_guard.specs.inner.Joins as spec;
+ghost use Rattle.luf_guard.specs.Space.{IsTokenSpelling, NeedSpace, StandApart};
 
 use luf_byte::{is_digit, is_letter, is_word_byte};
 
 /// Whether two token spellings need a space between them.
 pub fn needs_space(a: &[u8], b: &[u8]) -> bool
-    requires left { IsSpelling a.now }
-    requires right { IsSpelling b.now }
+    requires left { IsTokenSpelling a.now }
+    requires right { IsTokenSpelling b.now }
     ensures exact { IsTrue result ↔ NeedSpace a.now b.now }
     ensures apart { result ≡ false → StandApart a.now b.now }
 {

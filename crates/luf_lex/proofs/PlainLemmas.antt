@@ -8,7 +8,7 @@ use Rattle.std.proofs.lemmas.List.Sums.{prefix_len-le-length}
 use Rattle.luf_byte.specs.Class.{is_line_byte, is_letter, is_word_byte, is_blank}
 use Rattle.luf_byte.specs.Front.{begins}
 use Rattle.luf_lex.specs.Word.{word_spelling}
-use Rattle.luf_lex.specs.Sign.{sign_spelling, Begins}
+use Rattle.luf_lex.specs.Sign.{sign_spelling, StartsWith}
 use Rattle.luf_lex.specs.Spelling.{Spells}
 use Rattle.luf_byte.specs.LineEnd.{IsLineEnd, is_line_pair, line_end_length}
 use Rattle.luf_lex.specs.First.{IsFirst, HasNone, is_tried, group_of}
@@ -236,7 +236,7 @@ sign_some Plus = omega arith
 sign_some _ = omega arith
 
 pub sign_first : (text : List ℕ) (s : Mark) (n : ℕ) → group_of text ≡ Other → begins is_letter text ≡ false → begins is_blank text ≡ false → begins is_line_byte text ≡ false
-    → length (sign_spelling s) ≡ n → Begins text (sign_spelling s) → ((other : Mark) → n < length (sign_spelling other) → Begins text (sign_spelling other) → ⊥) → IsFirst text (Token (Sign s)) n
+    → length (sign_spelling s) ≡ n → StartsWith text (sign_spelling s) → ((other : Mark) → n < length (sign_spelling other) → StartsWith text (sign_spelling other) → ⊥) → IsFirst text (Token (Sign s)) n
 sign_first text s n group letter blank line len is longest =
     plain_first text (Token (Sign s)) n group refl (omega (arith, sign_some s)) (omega (arith, ap length is, length-take (length (sign_spelling s)) text))
     (sym is ∙ ap (λ i. take i text) len)
@@ -247,7 +247,7 @@ sign_first text s n group letter blank line len is longest =
     longest found.0 (omega arith) (ap (λ i. take i text) size ∙ sym found.1))
 
 -- where no sign begins the text either, it has no first piece
-pub none_first : (text : List ℕ) → group_of text ≡ Other → begins is_letter text ≡ false → begins is_blank text ≡ false → begins is_line_byte text ≡ false → ((s : Mark) → Begins text (sign_spelling s) → ⊥) → HasNone text
+pub none_first : (text : List ℕ) → group_of text ≡ Other → begins is_letter text ≡ false → begins is_blank text ≡ false → begins is_line_byte text ≡ false → ((s : Mark) → StartsWith text (sign_spelling s) → ⊥) → HasNone text
 none_first text group letter blank line none kind n h =
     let found = sign_spelled kind (take n text) (ap (λ g. is_tried g kind) (sym group) ∙ h.tried) h.spelled (begins_take is_letter text n h.some ∙ letter) (begins_take is_blank text n h.some ∙ blank) (begins_take is_line_byte text n h.some ∙ line) in
     let size : length (sign_spelling found.0) ≡ n = ap length found.1 ∙ length-take-le n text h.within in

@@ -3,7 +3,7 @@ use Rattle.std.proofs.Common.{◌≡◌, ℕ, zero, suc, ◌<◌, ◌≤◌, ◌
 use Rattle.std.proofs.lemmas.Bool.{cases_order}
 use Rattle.std.proofs.lemmas.List.{length-take}
 use Rattle.luf_lex.specs.Word.{word_spelling}
-use Rattle.luf_lex.specs.Sign.{sign_spelling, Begins}
+use Rattle.luf_lex.specs.Sign.{sign_spelling, StartsWith}
 use Rattle.luf_lex.specs.declared.token.Word.{Word as Keyword}
 use Rattle.luf_lex.specs.declared.token.Word.TheVariants.{And, Break, Do, Else, ElseIf, End, False, For, Function, Goto, If, In, Local, Nil, Not, Or, Repeat, Return, Then, True, Until, While}
 use Rattle.luf_lex.specs.declared.token.Sign.{Sign as Mark}
@@ -68,21 +68,21 @@ sign_or_not text =
 -- ---- the longest sign of at most so many bytes
 
 abbrev pub LongestSign : ℕ → List ℕ → Type 0
-LongestSign most text = (s : Mark) × Begins text (sign_spelling s) × ((other : Mark) → length (sign_spelling other) ≤ most → length (sign_spelling s) < length (sign_spelling other) → Begins text (sign_spelling other) → ⊥)
+LongestSign most text = (s : Mark) × StartsWith text (sign_spelling s) × ((other : Mark) → length (sign_spelling other) ≤ most → length (sign_spelling s) < length (sign_spelling other) → StartsWith text (sign_spelling other) → ⊥)
 
 abbrev pub NoSign : ℕ → List ℕ → Type 0
-NoSign most text = (s : Mark) → length (sign_spelling s) ≤ most → Begins text (sign_spelling s) → ⊥
+NoSign most text = (s : Mark) → length (sign_spelling s) ≤ most → StartsWith text (sign_spelling s) → ⊥
 
 take_again : (n : ℕ) (text : List ℕ) → take (length (take n text)) text ≡ take n text
 take_again zero text = refl
 take_again (suc n) [] = refl
 take_again (suc n) (b ∷ text) = ap (λ t. b ∷ t) (take_again n text)
 
-begins_within : (text : List ℕ) (s : Mark) → Begins text (sign_spelling s) → length (sign_spelling s) ≤ length text
+begins_within : (text : List ℕ) (s : Mark) → StartsWith text (sign_spelling s) → length (sign_spelling s) ≤ length text
 begins_within text s h = omega (arith, ap length h, length-take (length (sign_spelling s)) text)
 
 -- a sign that is no front of this length is shorter
-shorter : (most : ℕ) (text : List ℕ) → ((s : Mark) × (sign_spelling s ≡ take (suc most) text) → ⊥) → (s : Mark) → length (sign_spelling s) ≤ suc most → Begins text (sign_spelling s) → length (sign_spelling s) ≤ most
+shorter : (most : ℕ) (text : List ℕ) → ((s : Mark) × (sign_spelling s ≡ take (suc most) text) → ⊥) → (s : Mark) → length (sign_spelling s) ≤ suc most → StartsWith text (sign_spelling s) → length (sign_spelling s) ≤ most
 shorter most text none s few h =
     elim (cases_order (length (sign_spelling s)) (suc most)) [
       | inl e ↦ absurd (none (s, sym h ∙ ap (λ n. take n text) e))

@@ -1,5 +1,6 @@
 -- The first piece of a text, and why a text has none.
-use Rattle.std.specs.Prelude.{◌≡◌, ◌≢◌, ℕ, ◌+◌, ◌<◌, ◌≤◌, Bool, true, false, ◌==◌, ◌&&◌, ◌||◌, List, [], ◌∷◌, length, take, drop, if◌then◌else◌}
+use Rattle.std.specs.Prelude.{◌≡◌, ◌≢◌, ℕ, ◌+◌, ◌<◌, ◌≤◌, Bool, true, false, ◌==◌, ◌&&◌, ◌||◌, List, [], ◌∷◌, ◌++◌, length, take, drop, codes, if◌then◌else◌, IsTrue}
+use Rattle.std.specs.Str.{byte}
 use Rattle.luf_byte.specs.Class.{is_digit, is_hex_digit, is_letter}
 use Rattle.luf_num.specs.Numeral.{is_decimal_mark, is_binary_mark, HasNumeralForm}
 use Rattle.luf_str.specs.Bytes.{is_quote}
@@ -16,13 +17,15 @@ use Rattle.luf_lex.specs.declared.token.Tok.TheVariants.{Name, Number, Short, Lo
 use Rattle.luf_lex.specs.declared.token.Kind.{Kind}
 use Rattle.luf_lex.specs.declared.token.Kind.TheVariants.{Token, Comment, Blank, LineEnd}
 
+-- two dashes
 abbrev pub begins_comment : List ℕ → Bool
-begins_comment text = begins (λ b. b == 45) text && begins (λ b. b == 45) (drop 1 text)
+begins_comment text = begins (λ b. b == byte "-") text && begins (λ b. b == byte "-") (drop 1 text)
 
 -- a digit, or a point and a digit
 abbrev pub begins_numeral : List ℕ → Bool
-begins_numeral text = begins is_digit text || (begins (λ b. b == 46) text && begins is_digit (drop 1 text))
+begins_numeral text = begins is_digit text || (begins (λ b. b == byte ".") text && begins is_digit (drop 1 text))
 
+-- What is tried at a place. Where a short string, a long bracket, a comment or a numeral begins, nothing else is.
 abbrev pub group_of : List ℕ → Group
 group_of text =
     if begins is_quote text then Quoted
@@ -48,15 +51,15 @@ is_tried _ _ = false
 -- exponent, each with a sign where one follows; and then one letter or `_`, with which it has no numeral form.
 abbrev pub numeral_tail : (ℕ → Bool) → List ℕ → ℕ
 numeral_tail mark [] = 0
-numeral_tail mark (b ∷ []) = if is_hex_digit b || (b == 46 || is_letter b) then 1 else 0
+numeral_tail mark (b ∷ []) = if is_hex_digit b || (b == byte "." || is_letter b) then 1 else 0
 numeral_tail mark (b ∷ c ∷ rest) =
-    if mark b && (c == 43 || c == 45) then 2 + numeral_tail mark rest
-    else if mark b || (is_hex_digit b || b == 46) then 1 + numeral_tail mark (c ∷ rest)
+    if mark b && (c == byte "+" || c == byte "-") then 2 + numeral_tail mark rest
+    else if mark b || (is_hex_digit b || b == byte ".") then 1 + numeral_tail mark (c ∷ rest)
     else if is_letter b then 1 else 0
 
 -- whether a text begins with `0x` or `0X`
 abbrev pub begins_hexadecimal : List ℕ → Bool
-begins_hexadecimal text = begins (λ b. b == 48) text && begins (λ b. b == 120 || b == 88) (drop 1 text)
+begins_hexadecimal text = begins (λ b. b == byte "0") text && begins (λ b. b == byte "x" || b == byte "X") (drop 1 text)
 
 -- how many bytes the numeral has that a text begins with
 abbrev pub numeral_length : List ℕ → ℕ
@@ -70,11 +73,11 @@ numeral_length text =
 pub record IsFirst (text : List ℕ) (kind : Kind) (n : ℕ) : Type 0 where
   pub some : 0 < n
   pub within : n ≤ length text
-  pub tried : is_tried (group_of text) kind ≡ true
+  pub tried : IsTrue (is_tried (group_of text) kind)
   pub spelled : Spells kind (take n text)
-  pub longest : group_of text ≢ Numeric → (other : Kind) (m : ℕ) → is_tried (group_of text) other ≡ true → n < m → m ≤ length text → Spells other (take m text) → ⊥
+  pub longest : group_of text ≢ Numeric → (other : Kind) (m : ℕ) → IsTrue (is_tried (group_of text) other) → n < m → m ≤ length text → Spells other (take m text) → ⊥
   pub numeral : group_of text ≡ Numeric → n ≡ numeral_length text
-  pub long : group_of text ≡ Commented → opens_long (drop 2 text) ≡ true → IsLongComment (take n text)
+  pub long : group_of text ≡ Commented → IsTrue (opens_long (drop 2 text)) → IsLongComment (take n text)
 
 -- no piece begins the text
 abbrev pub HasNone : List ℕ → Type 0
@@ -82,7 +85,7 @@ HasNone text = (kind : Kind) (n : ℕ) → IsFirst text kind n → ⊥
 
 -- the text begins with a long bracket, and no front of it is a long string
 abbrev pub IsOpenLong : List ℕ → Type 0
-IsOpenLong text = (opens_long text ≡ true) × ((n : ℕ) → IsLongSpelling (take n text) → ⊥)
+IsOpenLong text = IsTrue (opens_long text) × ((n : ℕ) → IsLongSpelling (take n text) → ⊥)
 
 -- Why a text has no first piece.
 pub data IsFault : List ℕ → LexWhat → Type 0 where
@@ -95,4 +98,4 @@ pub data IsFault : List ℕ → LexWhat → Type 0 where
   -- it stays open
   open_string : (text : List ℕ) → IsShortEnd text end.Open → IsFault text OpenString
   open_long : (text : List ℕ) → IsOpenLong text → IsFault text OpenLong
-  open_comment : (rest : List ℕ) → IsOpenLong rest → IsFault (45 ∷ 45 ∷ rest) OpenLong
+  open_comment : (rest : List ℕ) → IsOpenLong rest → IsFault (codes "--" ++ rest) OpenLong

@@ -8,9 +8,9 @@ use crate::bracket::opens_long;
 use luf_byte::is_digit;
 
 /// What is tried at a place of a source: where a short string, a long bracket, a comment or a numeral begins,
-/// nothing else is.
+/// nothing else is. The definition of the first piece is told by it.
 #[derive(Clone, Copy, Debug, PartialEq, Eq)]
-pub(crate) enum Group {
+pub enum Group {
     Quoted,
     Bracketed,
     Commented,

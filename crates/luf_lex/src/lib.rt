@@ -19,6 +19,7 @@ mod word;
 
 pub use cutting::cut;
 pub use fault::{LexErr, LexWhat};
+pub use group::Group;
 pub use laws::{joined, one_cut, one_fault, one_of_cut_and_fault, spelled};
 pub use luf_text::Span;
 pub use note::Note;

@@ -4,7 +4,7 @@ ghost use Rattle.luf_byte.specs.Class as class;
 ghost use Rattle.luf_byte.specs.Front.{begins};
 ghost use Rattle.luf_lex.specs.First.{IsFirst, IsFault, group_of, numeral_tail, numeral_length};
 ghost use Rattle.luf_lex.specs.declared.group.Group.TheVariants.{Numeric};
-ghost use Rattle.luf_lex.specs.Scan.{mark_of, step_of};
+ghost use Rattle.luf_lex.specs.inner.Scan.{mark_of, step_of};
 
 use crate::{Kind, LexWhat, Tok};
 use luf_byte::{is_hex_digit, is_letter};

@@ -28,7 +28,7 @@ use Rattle.luf_tree.proofs.TokenLaws.{chunk_no_hash, bracket_no_equal}
 use Rattle.luf_work.specs.Minified.{is_hash_line, hash_text, IsSource, SameTokens}
 use Rattle.luf_work.specs.Text.{IsJoined, nothing, alone, apart, spaced}
 use Rattle.luf_guard.proofs.Before.{spelled_some}
-use Rattle.luf_guard.proofs.Spellings.{SpelledAt, spelled_at}
+use Rattle.luf_lex.proofs.PieceSpellings.{SpelledAt, spelled_at}
 use Rattle.luf_guard.proofs.Words.{run_before, begins_some, begins_front}
 use Rattle.luf_work.proofs.FirstByte.{no_line, no_mark, no_hash}
 use Rattle.luf_work.proofs.TokensCut.{Spelled, BracketsStop, TextCut, with_other, text_cut}
