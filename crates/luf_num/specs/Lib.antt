@@ -1,5 +1,3 @@
--- Digits, bases and numerals, and the parts into which a spelling is cut.
-pub mod Base
-pub mod Digit
+-- Numerals. What a reader has to believe stands in Numeral; inner is for private functions.
 pub mod Numeral
-pub mod Parts
+pub mod inner

@@ -1,10 +1,12 @@
 //! Whether a spelling has the form of a numeral in a base.
 ghost use Rattle.std.specs.Prelude.{◌≡◌, ◌↔◌, ◌⊎◌, ◌<◌, ◌≤◌, [], ◌∷◌, ◌++◌, length, take, drop, IsTrue};
 ghost use Rattle.std.specs.List.{list_all, prefix_len};
-ghost use Rattle.luf_num.specs.Base.{is_digit_in, is_mark_in};
-ghost use Rattle.luf_num.specs.Digit.{is_digit};
+ghost use Rattle.luf_num.specs.inner.Base.{is_digit_in, is_mark_in};
+ghost use Rattle.luf_byte.specs.Class.{is_digit};
 ghost use Rattle.luf_num.specs.Numeral.{IsDigits, IsExponent, HasFloatForm};
-ghost use Rattle.luf_num.specs.Parts.{SplitsWhile, SplitsFirst, is_point, is_sign};
+ghost use Rattle.luf_num.specs.inner.Parts.{SplitsWhile, SplitsFirst, is_point, is_sign};
+
+use luf_byte::{is_digit, is_hex_digit};
 
 /// The base of a numeral's digits. It also says which letter marks the exponent.
 #[derive(Clone, Copy)]
@@ -19,8 +21,8 @@ impl Base {
         ensures { result ≡ is_digit_in self byte }
     {
         match self {
-            Base::Decimal => byte.is_ascii_digit(),
-            Base::Hexadecimal => byte.is_ascii_hexdigit(),
+            Base::Decimal => is_digit(byte),
+            Base::Hexadecimal => is_hex_digit(byte),
         }
     }
 

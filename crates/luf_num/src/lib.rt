@@ -5,8 +5,6 @@ ghost use Rattle.std.specs.Prelude.{◌≡◌, ℕ, List, IfSome, IfNone, IsSome
 ghost use Rattle.luf_num.specs.Numeral.{HasNumeralForm, IsDecimal, IsHexPrefix, IsHexRest, IsNumber};
 
 mod form;
-#[cfg(test)]
-mod tests;
 mod value;
 
 use form::Base;

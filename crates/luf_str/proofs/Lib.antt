@@ -11,4 +11,5 @@ pub mod Unique
 pub mod Requoting
 pub mod Apart
 pub mod PartLaws
+pub mod BracketLaws
 pub mod Spelled

@@ -5,10 +5,12 @@ use Rattle.std.specs.List.{prefix_len}
 use Rattle.std.proofs.lemmas.Bool.{eqb-true, cases_lt}
 use Rattle.std.proofs.lemmas.Bool.Decides.{nat_tests}
 use Rattle.std.proofs.lemmas.List.{append-nil, take-append-drop, drop_more, drop_at, get_or_past, get_or_at, nil_from_length, length-replicate}
-use Rattle.luf_str.specs.Bytes.{is_line_byte, is_space, is_plain}
+use Rattle.luf_byte.specs.Class.{is_line_byte, is_whitespace}
+use Rattle.luf_str.specs.Bytes.{is_plain}
 use Rattle.luf_str.specs.Spelling.{IsUnit, opening, closing, IsLongOf, IsLongSpelling}
 use Rattle.luf_str.specs.Spelling as unit_rule
-use Rattle.luf_str.specs.Reading.{unit_length, line_end_length}
+use Rattle.luf_byte.specs.LineEnd.{line_end_length}
+use Rattle.luf_str.specs.inner.Reading.{unit_length}
 use Rattle.luf_str.proofs.Leading.{prefix_len-whole, all_leading, none_after, line_end-reads}
 use Rattle.luf_str.proofs.LongLaws.{closing_length, all_equals}
 use Rattle.luf_str.proofs.UnitLaws.{when_true}
@@ -26,8 +28,8 @@ plain_unit q b text no_quote no_backslash no_line =
 
 skip_unit : (q : ℕ) (text : List ℕ) → StandsUnit q (92 ∷ 122 ∷ text)
 skip_unit q text =
-    let more : 2 + prefix_len is_space text ≡ suc (suc (prefix_len is_space text)) = omega arith in
-    λ le. subst (λ n. IsUnit q (take n (92 ∷ 122 ∷ text)) (drop n (92 ∷ 122 ∷ text))) (sym more) (unit_rule.skip q _ _ (all_leading is_space text) (none_after is_space text))
+    let more : 2 + prefix_len is_whitespace text ≡ suc (suc (prefix_len is_whitespace text)) = omega arith in
+    λ le. subst (λ n. IsUnit q (take n (92 ∷ 122 ∷ text)) (drop n (92 ∷ 122 ∷ text))) (sym more) (unit_rule.skip q _ _ (all_leading is_whitespace text) (none_after is_whitespace text))
 
 line_unit : (q c : ℕ) (text : List ℕ) → eqb c 122 ≡ false → is_line_byte c ≡ true → StandsUnit q (92 ∷ c ∷ text)
 line_unit q c text no_z line =

@@ -2,7 +2,7 @@
 
 ghost use Rattle.std.specs.Prelude.{◌≡◌, ℕ, List, [], ◌++◌};
 ghost use Rattle.luf_str.specs.Requote.{IsRequoted};
-ghost use Rattle.luf_str.specs.Spelling.{IsSpelling};
+ghost use Rattle.luf_str.specs.Spelling.{IsStringSpelling};
 ghost use Rattle.luf_str.specs.Value.{IsValue, FirstBad};
 
 /// A string has at most one value.
@@ -11,7 +11,7 @@ pub fn one_value()
 {}
 
 /// A string with a bad escape has no value.
-pub fn value_or_bad()
+pub fn value_excludes_bad()
     ensures { (spelling value : List ℕ) (at : ℕ) → IsValue spelling value → FirstBad spelling at → ⊥ }
 {}
 
@@ -22,12 +22,12 @@ pub fn one_bad_place()
 
 /// What has a value is a spelling.
 pub fn value_spelled()
-    ensures { (spelling value : List ℕ) → IsValue spelling value → IsSpelling spelling }
+    ensures { (spelling value : List ℕ) → IsValue spelling value → IsStringSpelling spelling }
 {}
 
 /// No spelling is a proper front of another.
 pub fn spellings_apart()
-    ensures { (spelling more : List ℕ) → IsSpelling spelling → IsSpelling (spelling ++ more) → more ≡ [] }
+    ensures { (spelling more : List ℕ) → IsStringSpelling spelling → IsStringSpelling (spelling ++ more) → more ≡ [] }
 {}
 
 /// A string has at most one spelling in other quotes.

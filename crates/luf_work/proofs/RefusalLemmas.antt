@@ -10,7 +10,7 @@ use Rattle.luf_lex.specs.Cut.{IsCut}
 use Rattle.luf_lex.specs.Tokens.{toks_of, spans_of, spellings_of}
 use Rattle.luf_lex.specs.declared.fault.LexWhat.{LexWhat}
 use Rattle.luf_lex.specs.declared.token.Piece.{Piece}
-use Rattle.luf_lex.proofs.OneCut.{one_cut, cut_or_fault, one_fault}
+use Rattle.luf_lex.proofs.OneCut.{one_cut, cut_excludes_fault, one_fault}
 use Rattle.luf_tree.specs.declared.tree.Chunk.{Chunk}
 use Rattle.luf_tree.specs.Grammar.{IsChunk}
 use Rattle.luf_tree.specs.Level.{depth_of}
@@ -53,7 +53,7 @@ one_text source text other h g =
 
 -- a source with a tree has no lexical fault
 fault_no_source : (source : List ℕ) (pieces : List Piece) (chunk : Chunk) (place : Place) (what : LexWhat) → IsLexicalAt source place what → IsSource source pieces chunk → ⊥
-fault_no_source source pieces chunk place what h is = cut_or_fault source pieces h.at what is.cut h.fault
+fault_no_source source pieces chunk place what h is = cut_excludes_fault source pieces h.at what is.cut h.fault
 
 -- nor tokens without one
 no_tree_no_source : (source : List ℕ) (pieces : List Piece) (chunk : Chunk) (place : Place) → HasNoTreeAt source place → IsSource source pieces chunk → ⊥
@@ -77,7 +77,7 @@ one_lexical source place what place' what' h g =
 
 -- and none where it has a cut
 fault_no_tree : (source : List ℕ) (place : Place) (what : LexWhat) (place' : Place) → IsLexicalAt source place what → HasNoTreeAt source place' → ⊥
-fault_no_tree source place what place' h g = cut_or_fault source g.pieces h.at what g.cut h.fault
+fault_no_tree source place what place' h g = cut_excludes_fault source g.pieces h.at what g.cut h.fault
 
 -- two causes of one source are one, or both tell that it has no tree
 one_source_refusal : (source : List ℕ) (refusal other : Refusal) → IsSourceRefusal source refusal → IsSourceRefusal source other → IsSameRefusal refusal other

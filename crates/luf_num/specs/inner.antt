@@ -1,0 +1,4 @@
+-- What only private functions cite: their contracts are proved to give those of the public calls, so that nothing here
+-- has to be believed.
+pub mod Base
+pub mod Parts
