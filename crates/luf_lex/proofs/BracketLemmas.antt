@@ -8,7 +8,7 @@ use Rattle.memchr.specs.Find.{Nowhere, Passes, is_byte}
 use Rattle.luf_str.specs.Spelling.{opening, closing, IsLongSpelling}
 use Rattle.luf_str.proofs.LongLaws.{level_front, opening_length, closing_length}
 use Rattle.luf_str.proofs.Spelled.{bracket_front, closes_iff}
-use Rattle.luf_lex.specs.Byte.{begins}
+use Rattle.luf_byte.specs.Front.{begins}
 use Rattle.luf_lex.specs.Spelling.{opens_long}
 use Rattle.luf_lex.specs.First.{IsOpenLong}
 

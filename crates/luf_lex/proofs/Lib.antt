@@ -12,3 +12,11 @@ pub mod FaultLaws
 pub mod NoteLemmas
 pub mod OneCut
 pub mod WholeCut
+pub mod Decided
+pub mod ShortEnds
+pub mod LongEnds
+pub mod NumeralForms
+pub mod WordsAndSigns
+pub mod FirstOrFault
+pub mod ExactlyOne
+pub mod PieceSpellings

@@ -5,9 +5,11 @@ use Rattle.std.proofs.lemmas.List.{take-append-drop, take-take, length-take-le}
 use Rattle.luf_str.specs.Bytes.{is_quote}
 use Rattle.luf_str.specs.Spelling.{IsSpelling}
 use Rattle.luf_str.proofs.Apart.{apart}
-use Rattle.luf_lex.specs.Byte.{begins}
+use Rattle.luf_byte.specs.Front.{begins}
 use Rattle.luf_lex.specs.Spelling.{Spells, IsLongComment, opens_long}
-use Rattle.luf_lex.specs.First.{Group, Quoted, Bracketed, Commented, Numeric, Other, group_of, is_tried, begins_comment, begins_numeral, IsFirst}
+use Rattle.luf_lex.specs.First.{group_of, is_tried, begins_comment, begins_numeral, IsFirst}
+use Rattle.luf_lex.specs.declared.group.Group.{Group}
+use Rattle.luf_lex.specs.declared.group.Group.TheVariants.{Quoted, Bracketed, Commented, Numeric, Other}
 use Rattle.luf_lex.specs.declared.token.Tok.TheVariants.{Short, Long}
 use Rattle.luf_lex.specs.declared.token.Kind.{Kind}
 use Rattle.luf_lex.specs.declared.token.Kind.TheVariants.{Token, Comment}
