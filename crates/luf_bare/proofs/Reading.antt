@@ -17,7 +17,7 @@ use Rattle.luf_tree.specs.declared.tree.Step.{Step}
 use Rattle.luf_tree.specs.declared.tree.Suffix.{Suffix}
 use Rattle.luf_tree.specs.declared.tree.Args.{Args}
 use Rattle.luf_tree.specs.declared.tree.Field.{Field}
-use Rattle.luf_tree.specs.Operator.{binary_level}
+use Rattle.luf_tree.specs.Operator.{binary_precedence}
 use Rattle.luf_tree.specs.Grammar as g
 use Rattle.luf_tree.specs.Grammar.{At, IsToken, IsString, IsClosed, expression, statement, AreNames, AreParams, IsAttribute, AreDeclared, IsPath, IsMethod, IsSemicolon, IsExpr, AreSteps, IsOperand, IsSimple, IsPrefix, IsVariable, IsCall, IsParen, IsHead, AreSuffixes, IsSuffix, IsArgs, AreExprs, IsTable, AreFields, IsField, IsFuncBody, IsBlock, AreStats, IsReturn, IsStat, AreTargets, IsArm, AreArms, IsElse, IsForStep, IsChunk}
 use Rattle.luf_tree.specs.Syntax as syntax
@@ -125,8 +125,8 @@ tok_or _ (Some t) = t
 pub some_is : {s t : Tok} → Some s ≡ Some t → s ≡ t
 some_is {s} same = ap (tok_or s) same
 
-no_level : {t : Tok} {m : ℕ} → t ≡ Sign sign.LeftParen → binary_level t ≡ m → 0 < m → ⊥
-no_level paren level pos = omega (arith, sym (ap binary_level paren) ∙ level, pos)
+no_operator : {t : Tok} {m : ℕ} → t ≡ Sign sign.LeftParen → binary_precedence t ≡ m → 0 < m → ⊥
+no_operator paren is pos = omega (arith, sym (ap binary_precedence paren) ∙ is, pos)
 
 -- where parts of the tree end
 mutual
@@ -417,8 +417,8 @@ module _ {X : Type 0} (kind : X → Tok) (added : X → Bool) (toks : List Tok) 
   for_step_shut w.no_for_step none c = c
   for_step_shut (w.a_for_step is e) stand c = shut_by is.0 refl stand
 
-  operator_shut : {x : X} {words : List X} {m i k : ℕ} {ds after : List ℕ} → binary_level (kind x) ≡ m → 0 < m → Stand (x ∷ words) i k ds after → IsClosed toks i
-  operator_shut {x} is pos stand = λ paren. no_level (some_is (sym (head_token stand).token.there ∙ paren)) is pos
+  operator_shut : {x : X} {words : List X} {m i k : ℕ} {ds after : List ℕ} → binary_precedence (kind x) ≡ m → 0 < m → Stand (x ∷ words) i k ds after → IsClosed toks i
+  operator_shut {x} is pos stand = λ paren. no_operator (some_is (sym (head_token stand).token.there ∙ paren)) is pos
 
   steps_shut : {m : ℕ} {b : syntax.Operations (Bare X)} {words : List X} {i k : ℕ} {ds after : List ℕ} → WritesSteps kind added m b words → 0 < m → Stand words i k ds after → IsClosed toks i
   steps_shut (w.one_step is e) pos stand = operator_shut is.0 pos stand

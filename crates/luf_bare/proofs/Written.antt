@@ -16,7 +16,7 @@ use Rattle.luf_tree.specs.declared.tree.Step.{Step}
 use Rattle.luf_tree.specs.declared.tree.Suffix.{Suffix}
 use Rattle.luf_tree.specs.declared.tree.Args.{Args}
 use Rattle.luf_tree.specs.declared.tree.Field.{Field}
-use Rattle.luf_tree.specs.Operator.{binary_level, is_unary}
+use Rattle.luf_tree.specs.Operator.{binary_precedence, is_unary}
 use Rattle.luf_tree.specs.Grammar as g
 use Rattle.luf_tree.specs.Grammar.{At, IsToken, IsString, IsClosed, expression, statement, AreNames, AreParams, IsAttribute, AreDeclared, IsPath, IsMethod, IsSemicolon, IsExpr, AreSteps, IsOperand, IsSimple, IsPrefix, IsVariable, IsCall, IsParen, IsHead, AreSuffixes, IsSuffix, IsArgs, AreExprs, IsTable, AreFields, IsField, IsFuncBody, IsBlock, AreStats, IsReturn, IsStat, AreTargets, IsArm, AreArms, IsElse, IsForStep, IsChunk}
 use Rattle.luf_tree.specs.Syntax as syntax
@@ -378,11 +378,11 @@ module _ {X : Type 0} (kind : X → Tok) (added : X → Bool) (put add : Tok →
     tell_expr (g.chain_expr {n} {i} {k} {first} {rest} pos le d_e d_rest) = subst (ToldExpr n) (sym (chain_syntax i k first rest)) (w.chain_expr pos le (tell_expr d_e) (tell_steps d_rest))
 
     tell_steps : {m : ℕ} {i k : ℕ} {x : List Step} → AreSteps toks m i k x → ToldSteps m (operations_of (map syntax_of_step x))
-    tell_steps (g.one_step {m} {i} {e} t_x level_x d_e) = subst (ToldSteps m) (ap (λ z. syntax.more_operations z syntax.no_operations) (sym (step_of_syntax i e))) (subst (λ z. WritesSteps kind added m (syntax.more_operations (syntax.operation (says i) (bare_expression (words_of says) (syntax_of_expr e))) syntax.no_operations) (says i ∷ z)) (sym (append-nil _)) (w.one_step (ap binary_level (kind_says t_x) ∙ level_x, says_kept _) (tell_expr d_e)))
-    tell_steps (g.more_steps {m} {i} {e} {rest} t_x level_x d_e d_rest) = subst (ToldSteps m) (ap (λ z. syntax.more_operations z (operations_of (map syntax_of_step rest))) (sym (step_of_syntax i e))) (w.more_steps (ap binary_level (kind_says t_x) ∙ level_x, says_kept _) (tell_expr d_e) (tell_steps d_rest))
+    tell_steps (g.one_step {m} {i} {e} t_x operator_x d_e) = subst (ToldSteps m) (ap (λ z. syntax.more_operations z syntax.no_operations) (sym (step_of_syntax i e))) (subst (λ z. WritesSteps kind added m (syntax.more_operations (syntax.operation (says i) (bare_expression (words_of says) (syntax_of_expr e))) syntax.no_operations) (says i ∷ z)) (sym (append-nil _)) (w.one_step (ap binary_precedence (kind_says t_x) ∙ operator_x, says_kept _) (tell_expr d_e)))
+    tell_steps (g.more_steps {m} {i} {e} {rest} t_x operator_x d_e d_rest) = subst (ToldSteps m) (ap (λ z. syntax.more_operations z (operations_of (map syntax_of_step rest))) (sym (step_of_syntax i e))) (w.more_steps (ap binary_precedence (kind_says t_x) ∙ operator_x, says_kept _) (tell_expr d_e) (tell_steps d_rest))
 
     tell_operand : {i k : ℕ} {x : Expr} → IsOperand toks i k x → ToldOperand (syntax_of_expr x)
-    tell_operand (g.unary_operand {i} {k} {e} t_x level_x d_e) = subst (ToldOperand) (sym (unary_syntax i k e)) (w.unary_operand (ap is_unary (kind_says t_x) ∙ level_x, says_kept _) (tell_operand d_e))
+    tell_operand (g.unary_operand {i} {k} {e} t_x operator_x d_e) = subst (ToldOperand) (sym (unary_syntax i k e)) (w.unary_operand (ap is_unary (kind_says t_x) ∙ operator_x, says_kept _) (tell_operand d_e))
     tell_operand (g.power_operand {i} {j} {l} {base} {exponent} d_e t_x d_exponent) = subst (ToldOperand) (sym (power_syntax i l base j exponent)) (w.power_operand (tell_simple d_e) (says_keeps t_x) (tell_operand d_exponent))
     tell_operand (g.simple_operand d_e) = w.simple_operand (tell_simple d_e)
 

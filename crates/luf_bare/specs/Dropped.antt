@@ -3,6 +3,7 @@
 -- are those of the part, and then these more.
 use Rattle.std.specs.Prelude.{ℕ, zero, suc, ◌+◌, ◌-◌, Bool, true, false, List, ◌∷◌}
 use Rattle.luf_tree.specs.Syntax as syntax
+use Rattle.luf_tree.specs.Span.{span_of}
 use Rattle.luf_tree.specs.TokenSyntax as tokens
 use Rattle.luf_bare.specs.Lone.{is_lone}
 
@@ -15,20 +16,7 @@ abbrev pub between : ℕ → ℕ → List ℕ → List ℕ
 between i k more = if_room (k - i) i more
 
 abbrev pub end_of_expression : tokens.Expression → ℕ
-end_of_expression (syntax.nil_value span) = span.to
-end_of_expression (syntax.true_value span) = span.to
-end_of_expression (syntax.false_value span) = span.to
-end_of_expression (syntax.numeral span value) = span.to
-end_of_expression (syntax.string span value) = span.to
-end_of_expression (syntax.varargs span) = span.to
-end_of_expression (syntax.variable span name) = span.to
-end_of_expression (syntax.parenthesised span inner) = span.to
-end_of_expression (syntax.function span _) = span.to
-end_of_expression (syntax.table span _) = span.to
-end_of_expression (syntax.unary span sign operand) = span.to
-end_of_expression (syntax.chain span first rest) = span.to
-end_of_expression (syntax.power span base sign exponent) = span.to
-end_of_expression (syntax.suffixed span _ _) = span.to
+end_of_expression e = (span_of e).to
 
 -- where several end, or another place if there are none
 abbrev pub end_of_expressions : ℕ → tokens.Expressions → ℕ

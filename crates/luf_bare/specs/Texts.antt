@@ -11,7 +11,7 @@ use Rattle.luf_tree.specs.Syntax as syntax
 use Rattle.luf_bare.specs.Bare.{Bare}
 use Rattle.luf_tree.specs.SyntaxOf.{first_of_path, rest_of_path}
 use Rattle.luf_bare.specs.Lone.{is_lone}
-use Rattle.luf_tree.specs.Operator.{binary_level, is_unary}
+use Rattle.luf_tree.specs.Operator.{binary_precedence, is_unary}
 
 module _ {X : Type 0} (kind : X → Tok) (added : X → Bool) where
   -- a word of the program, for this token
@@ -67,8 +67,8 @@ module _ {X : Type 0} (kind : X → Tok) (added : X → Bool) where
       chain_expr : {n m : ℕ} {e : syntax.Expression (Bare X)} {rest : syntax.Operations (Bare X)} {e_words rest_words : List X} → 0 < m → n ≤ m → WritesExpr (m + 1) e e_words → WritesSteps m rest rest_words → WritesExpr n (syntax.chain tt e rest) (e_words ++ rest_words)
 
     pub data WritesSteps : ℕ → syntax.Operations (Bare X) → List X → Type 0 where
-      one_step : {m : ℕ} {x : X} {e : syntax.Expression (Bare X)} {e_words : List X} → (binary_level (kind x) ≡ m) × (added x ≡ false) → WritesExpr (m + 1) e e_words → WritesSteps m (syntax.more_operations (syntax.operation x e) syntax.no_operations) (x ∷ e_words)
-      more_steps : {m : ℕ} {x : X} {e : syntax.Expression (Bare X)} {rest : syntax.Operations (Bare X)} {e_words rest_words : List X} → (binary_level (kind x) ≡ m) × (added x ≡ false) → WritesExpr (m + 1) e e_words → WritesSteps m rest rest_words → WritesSteps m (syntax.more_operations (syntax.operation x e) rest) (x ∷ (e_words ++ rest_words))
+      one_step : {m : ℕ} {x : X} {e : syntax.Expression (Bare X)} {e_words : List X} → (binary_precedence (kind x) ≡ m) × (added x ≡ false) → WritesExpr (m + 1) e e_words → WritesSteps m (syntax.more_operations (syntax.operation x e) syntax.no_operations) (x ∷ e_words)
+      more_steps : {m : ℕ} {x : X} {e : syntax.Expression (Bare X)} {rest : syntax.Operations (Bare X)} {e_words rest_words : List X} → (binary_precedence (kind x) ≡ m) × (added x ≡ false) → WritesExpr (m + 1) e e_words → WritesSteps m rest rest_words → WritesSteps m (syntax.more_operations (syntax.operation x e) rest) (x ∷ (e_words ++ rest_words))
 
     pub data WritesOperand : syntax.Expression (Bare X) → List X → Type 0 where
       unary_operand : {x : X} {e : syntax.Expression (Bare X)} {e_words : List X} → (is_unary (kind x) ≡ true) × (added x ≡ false) → WritesOperand e e_words → WritesOperand (syntax.unary tt x e) (x ∷ e_words)
