@@ -1,0 +1,2 @@
+-- The operations, their instructions, and the word of an instruction.
+pub mod Operation
