@@ -195,7 +195,11 @@ impl Op {
         ensures exists { IsSome result ↔ (number < 83) }
         ensures some { IfSome result (λ op. number_of op ≡ number) }
     {
-        OPERATIONS.get(number as usize).copied()
+        if number < 83 {
+            Some(OPERATIONS[number as usize])
+        } else {
+            None
+        }
     }
 
     /// The form of its instructions.

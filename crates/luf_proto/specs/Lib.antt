@@ -1,0 +1,3 @@
+-- Functions as plain data, the one of a prototype, and what is left of one without its lines.
+pub mod Function
+pub mod FunctionOf
