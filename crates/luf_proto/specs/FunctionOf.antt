@@ -1,5 +1,5 @@
 -- The function that a prototype is: one fold, from the type of the program to the data of `Function`.
-use Rattle.std.specs.Prelude.{ℕ, List, [], ◌∷◌}
+use Rattle.std.specs.Prelude.{List, [], ◌∷◌}
 use Rattle.luf_proto.specs.Function.{Function, Functions, function, no_functions, more_functions}
 use Rattle.luf_proto.specs.declared.proto.Proto.{Proto, fold-Proto}
 use Rattle.luf_proto.specs.declared.proto.Proto.TheOpen.{Proto-F}

@@ -1,4 +1,4 @@
-use Rattle.std.proofs.Common.{◌≡◌, ◌∙◌, refl, ℕ, ◌+◌, ◌<◌, zero, suc, Bool, true, ◌&&◌, eqb, List, [], ◌∷◌, get_or, length, zero-add, rules, arith}
+use Rattle.std.proofs.Common.{◌≡◌, ◌∙◌, ℕ, ◌+◌, ◌<◌, zero, suc, Bool, true, ◌&&◌, eqb, List, [], ◌∷◌, get_or, length, zero-add, rules, arith}
 use Rattle.std.proofs.lemmas.Bool.{and_parts, eqb-true}
 use Rattle.luf_ops.specs.Operation.{number_of}
 use Rattle.luf_ops.specs.declared.op.Op.{Op}
