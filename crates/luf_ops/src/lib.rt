@@ -2,7 +2,9 @@
 #![tactic(auto)]
 
 mod form;
+mod instr;
 mod op;
 
 pub use form::Form;
+pub use instr::{Instr, one_instruction};
 pub use op::Op;
