@@ -1,14 +1,12 @@
--- Each operation stands at its number in the list of all.
-use Rattle.std.proofs.Common.{◌≡◌, ◌∙◌, ap, sym, refl, ℕ, ◌<◌, List, [], ◌∷◌, length, slice_get, Some}
+-- Each operation stands at its number in the list of all, so that numbers are below 83, and no two are the same.
+use Rattle.std.proofs.Common.{◌≡◌, ◌∙◌, ap, sym, refl, ℕ, ◌+◌, ◌<◌, zero, suc, Bool, true, ◌&&◌, eqb, List, [], ◌∷◌, length, slice_get, Some, zero-add, arith}
+use Rattle.std.proofs.lemmas.Bool.{and_parts, eqb-true}
 use Rattle.std.proofs.lemmas.Option.{slice_get_within}
-use Rattle.luf_ops.specs.Operation.{number_of}
+use Rattle.luf_ops.specs.Operation.{number_of, operations}
 use Rattle.luf_ops.specs.declared.op.Op.{Op}
 use Rattle.luf_ops.specs.declared.op.Op.TheVariants as op
 
-operations : List Op
-operations = op.Move ∷ op.LoadI ∷ op.LoadF ∷ op.LoadK ∷ op.LoadKX ∷ op.LoadFalse ∷ op.LFalseSkip ∷ op.LoadTrue ∷ op.LoadNil ∷ op.GetUpval ∷ op.SetUpval ∷ op.GetTabUp ∷ op.GetTable ∷ op.GetI ∷ op.GetField ∷ op.SetTabUp ∷ op.SetTable ∷ op.SetI ∷ op.SetField ∷ op.NewTable ∷ op.SelfKey ∷ op.AddI ∷ op.AddK ∷ op.SubK ∷ op.MulK ∷ op.ModK ∷ op.PowK ∷ op.DivK ∷ op.IDivK ∷ op.BAndK ∷ op.BOrK ∷ op.BXorK ∷ op.ShrI ∷ op.ShlI ∷ op.Add ∷ op.Sub ∷ op.Mul ∷ op.Mod ∷ op.Pow ∷ op.Div ∷ op.IDiv ∷ op.BAnd ∷ op.BOr ∷ op.BXor ∷ op.Shl ∷ op.Shr ∷ op.MmBin ∷ op.MmBinI ∷ op.MmBinK ∷ op.Unm ∷ op.BNot ∷ op.Not ∷ op.Len ∷ op.Concat ∷ op.Close ∷ op.Tbc ∷ op.Jmp ∷ op.Eq ∷ op.Lt ∷ op.Le ∷ op.EqK ∷ op.EqI ∷ op.LtI ∷ op.LeI ∷ op.GtI ∷ op.GeI ∷ op.Test ∷ op.TestSet ∷ op.Call ∷ op.TailCall ∷ op.Return ∷ op.Return0 ∷ op.Return1 ∷ op.ForLoop ∷ op.ForPrep ∷ op.TForPrep ∷ op.TForCall ∷ op.TForLoop ∷ op.SetList ∷ op.Closure ∷ op.VarArg ∷ op.VarArgPrep ∷ op.ExtraArg ∷ []
-
-slice_get-number_of : (o : Op) → slice_get operations (number_of o) ≡ Some o
+pub slice_get-number_of : (o : Op) → slice_get operations (number_of o) ≡ Some o
 unfolding operations
 slice_get-number_of op.Move = refl
 slice_get-number_of op.LoadI = refl
@@ -104,3 +102,24 @@ number_of-same o p e =
     let at_p = slice_get-number_of p in
     let numbers : slice_get operations (number_of o) ≡ slice_get operations (number_of p) = ap (slice_get operations) e in
     cc
+
+-- and at each number below 83 the operation that has it
+in_order : ℕ → List Op → Bool
+in_order first [] = true
+in_order first (o ∷ os) = eqb (number_of o) first && in_order (suc first) os
+
+number_of-in_order : (first : ℕ) (os : List Op) (n : ℕ) (o : Op) → in_order first os ≡ true → slice_get os n ≡ Some o → number_of o ≡ first + n
+unfolding in_order
+number_of-in_order first [] n o ordered at = cc
+number_of-in_order first (p ∷ os) zero o ordered at =
+    let e : number_of p ≡ first = eqb-true (number_of p) first (and_parts (eqb (number_of p) first) (in_order (suc first) os) ordered).0 in
+    let same : p ≡ o = cc in
+    let f : number_of p ≡ number_of o = ap number_of same in
+    omega arith
+number_of-in_order first (p ∷ os) (suc n) o ordered at =
+    let e : number_of o ≡ suc first + n = number_of-in_order (suc first) os n o (and_parts (eqb (number_of p) first) (in_order (suc first) os) ordered).1 at in
+    omega arith
+
+pub number_of-slice_get : (n : ℕ) (o : Op) → slice_get operations n ≡ Some o → number_of o ≡ n
+unfolding operations in_order
+number_of-slice_get n o at = number_of-in_order 0 operations n o refl at ∙ zero-add n

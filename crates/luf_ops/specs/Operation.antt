@@ -1,6 +1,6 @@
 -- The operations of the virtual machine of Lua 5.4: numbers, names and forms, in the order of the enumeration OpCode of
 -- lopcodes.h. The form is that of the fields in its comment: A B C and k, or A Bx, A sBx, Ax, sJ.
-use Rattle.std.specs.Prelude.{ℕ, List, codes}
+use Rattle.std.specs.Prelude.{ℕ, List, [], ◌∷◌, codes}
 use Rattle.luf_ops.specs.declared.op.Op.{Op}
 use Rattle.luf_ops.specs.declared.op.Op.TheVariants as op
 use Rattle.luf_ops.specs.declared.form.Form.{Form}
@@ -107,3 +107,7 @@ name_of op = (row_of op).name
 
 abbrev pub form_of : Op → Form
 form_of op = (row_of op).form
+
+-- all operations, in the order of their numbers
+unfoldable pub operations : List Op
+operations = op.Move ∷ op.LoadI ∷ op.LoadF ∷ op.LoadK ∷ op.LoadKX ∷ op.LoadFalse ∷ op.LFalseSkip ∷ op.LoadTrue ∷ op.LoadNil ∷ op.GetUpval ∷ op.SetUpval ∷ op.GetTabUp ∷ op.GetTable ∷ op.GetI ∷ op.GetField ∷ op.SetTabUp ∷ op.SetTable ∷ op.SetI ∷ op.SetField ∷ op.NewTable ∷ op.SelfKey ∷ op.AddI ∷ op.AddK ∷ op.SubK ∷ op.MulK ∷ op.ModK ∷ op.PowK ∷ op.DivK ∷ op.IDivK ∷ op.BAndK ∷ op.BOrK ∷ op.BXorK ∷ op.ShrI ∷ op.ShlI ∷ op.Add ∷ op.Sub ∷ op.Mul ∷ op.Mod ∷ op.Pow ∷ op.Div ∷ op.IDiv ∷ op.BAnd ∷ op.BOr ∷ op.BXor ∷ op.Shl ∷ op.Shr ∷ op.MmBin ∷ op.MmBinI ∷ op.MmBinK ∷ op.Unm ∷ op.BNot ∷ op.Not ∷ op.Len ∷ op.Concat ∷ op.Close ∷ op.Tbc ∷ op.Jmp ∷ op.Eq ∷ op.Lt ∷ op.Le ∷ op.EqK ∷ op.EqI ∷ op.LtI ∷ op.LeI ∷ op.GtI ∷ op.GeI ∷ op.Test ∷ op.TestSet ∷ op.Call ∷ op.TailCall ∷ op.Return ∷ op.Return0 ∷ op.Return1 ∷ op.ForLoop ∷ op.ForPrep ∷ op.TForPrep ∷ op.TForCall ∷ op.TForLoop ∷ op.SetList ∷ op.Closure ∷ op.VarArg ∷ op.VarArgPrep ∷ op.ExtraArg ∷ []

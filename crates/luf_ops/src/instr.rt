@@ -1,7 +1,7 @@
 //! Instructions, and the words in which they are stored.
-ghost use Rattle.std.specs.Prelude.{◌≡◌, ℕ, ◌+◌, ◌*◌, ◌/◌, ◌%◌, ◌^◌, ◌<◌, ◌≤◌, ◌↔◌, IsTrue, IsSome, IfSome, Some};
-ghost use Rattle.luf_ops.specs.Operation.{number_of};
-ghost use Rattle.luf_ops.specs.Instruction.{Fits, IsStorable, bit, stored, word_of};
+ghost use Rattle.std.specs.Prelude.{◌≡◌, ℕ, ◌+◌, ◌*◌, ◌/◌, ◌%◌, ◌^◌, ◌<◌, ◌≤◌, ◌↔◌, IsTrue, IsSome, IfSome, Some, pos, ◌-ℤ◌};
+ghost use Rattle.luf_ops.specs.Operation.{form_of, number_of};
+ghost use Rattle.luf_ops.specs.Instruction.{Fits, IsStorable, bit, instruction_of, instruction_with, stored, word_of};
 
 use crate::{Form, Op};
 
@@ -97,11 +97,12 @@ impl Instr {
 
     /// The instruction of a word, and `None` exactly where its bits 0 to 6 are the number of no operation.
     pub fn decode(word: u32) -> Option<Instr>
+        ensures fields { result ≡ instruction_of word }
         ensures exists { IsSome result ↔ (word % 2 ^ 7 < 83) }
         ensures word { IfSome result (λ i. Fits i × (word_of i ≡ word)) }
         ensures only { (i : Instr) → Fits i → word_of i ≡ word → result ≡ Some i }
     {
-        let op = Op::from_number(byte(word, 0) & 0x7f)?;
+        let op = Op::from_number(number_in(word))?;
         Some(with_op(op, word))
     }
 }
@@ -109,6 +110,7 @@ impl Instr {
 /// The instruction of a word, whose operation is known.
 fn with_op(op: Op, word: u32) -> Instr
     requires { number_of op ≡ word % 2 ^ 7 }
+    ensures fields { result ≡ instruction_with (form_of op) op word }
     ensures fits { Fits result }
     ensures word { word_of result ≡ word }
 {
@@ -137,6 +139,13 @@ fn with_op(op: Op, word: u32) -> Instr
             sj: from_stored(word >> AX, SJ_EXCESS),
         },
     }
+}
+
+/// The number of the operation.
+fn number_in(word: u32) -> u8
+    ensures { result ≡ word % 2 ^ 7 }
+{
+    (word & 0x7f) as u8
 }
 
 /// The eight bits of a word from `position` on.
@@ -171,6 +180,7 @@ fn from_stored(field: u32, excess: u32) -> i32
     requires field { field < 2 ^ 30 }
     ensures storable { (limit : ℕ) → field < limit → IsStorable excess limit result }
     ensures stored { stored excess result ≡ field }
+    ensures number { result ≡ pos field -ℤ pos excess }
 {
     field as i32 - excess as i32
 }

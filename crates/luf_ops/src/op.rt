@@ -1,6 +1,6 @@
 //! The operations of the virtual machine of Lua 5.4.
-ghost use Rattle.std.specs.Prelude.{◌≡◌, ◌<◌, ◌≤◌, ◌↔◌, IsSome, IfSome};
-ghost use Rattle.luf_ops.specs.Operation.{form_of, name_of, number_of};
+ghost use Rattle.std.specs.Prelude.{◌≡◌, ◌<◌, ◌≤◌, ◌↔◌, IsSome, IfSome, slice_get};
+ghost use Rattle.luf_ops.specs.Operation.{form_of, name_of, number_of, operations};
 
 use crate::Form;
 
@@ -193,7 +193,8 @@ impl Op {
     /// The operation of a number, and `None` exactly from 83.
     pub fn from_number(number: u8) -> Option<Op>
         ensures exists { IsSome result ↔ (number < 83) }
-        ensures some { IfSome result (λ op. number_of op ≡ number) }
+        ensures number { IfSome result (λ op. number_of op ≡ number) }
+        ensures listed { result ≡ slice_get operations number }
     {
         if number < 83 {
             Some(OPERATIONS[number as usize])
