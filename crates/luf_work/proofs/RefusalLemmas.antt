@@ -10,7 +10,7 @@ use Rattle.luf_lex.specs.Cut.{IsCut}
 use Rattle.luf_lex.specs.Tokens.{toks_of, spans_of, spellings_of}
 use Rattle.luf_lex.specs.declared.fault.LexWhat.{LexWhat}
 use Rattle.luf_lex.specs.declared.token.Piece.{Piece}
-use Rattle.luf_lex.proofs.OneCut.{one_cut, cut_or_fault, one_fault}
+use Rattle.luf_lex.proofs.OneCut.{one_cut, cut_excludes_fault, one_fault}
 use Rattle.luf_tree.specs.declared.tree.Chunk.{Chunk}
 use Rattle.luf_tree.specs.Grammar.{IsChunk}
 use Rattle.luf_tree.specs.Level.{depth_of}
@@ -55,7 +55,7 @@ no_tree_no_text source text place h m =
 
 -- nor where it has a lexical fault
 fault_no_text : (source text : List ℕ) (place : Place) (what : LexWhat) → IsLexicalAt source place what → IsMinified source text → ⊥
-fault_no_text source text place what h m = cut_or_fault source m.pieces h.at what m.is.cut h.fault
+fault_no_text source text place what h m = cut_excludes_fault source m.pieces h.at what m.is.cut h.fault
 
 -- an accepted source is refused for want of memory alone
 pub accepted_or_refused : (source : List ℕ) (refusal : Refusal) → IsAccepted source → IsRefused source refusal → refusal ≡ Memory
@@ -84,7 +84,7 @@ one_lexical source place what place' what' h g =
 
 -- and none where it has a cut
 fault_no_tree : (source : List ℕ) (place : Place) (what : LexWhat) (place' : Place) → IsLexicalAt source place what → HasNoTreeAt source place' → ⊥
-fault_no_tree source place what place' h g = cut_or_fault source g.pieces h.at what g.cut h.fault
+fault_no_tree source place what place' h g = cut_excludes_fault source g.pieces h.at what g.cut h.fault
 
 -- two causes of one source are one, or both tell that it has no tree
 pub one_refusal : (source : List ℕ) (refusal other : Refusal) → IsRefused source refusal → IsRefused source other → refusal ≢ Memory → other ≢ Memory → (refusal ≡ other) ⊎ (TellsNoTree refusal × TellsNoTree other)

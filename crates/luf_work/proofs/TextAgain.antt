@@ -6,10 +6,13 @@ use Rattle.std.proofs.Math.Seq.{take-append_seam, drop-append_seam, drop-drop}
 use Rattle.std.proofs.lemmas.Bool.{cond-true, cond-false, and_left, false≢true}
 use Rattle.std.proofs.lemmas.Bool.Decides.{nat_tests}
 use Rattle.std.proofs.lemmas.List.{length-map}
-use Rattle.luf_byte.specs.Class.{is_line_byte}
-use Rattle.luf_lex.specs.Byte.{in_line, begins}
-use Rattle.luf_lex.specs.Spelling.{Spells, IsLineEnd, IsHashLine}
-use Rattle.luf_lex.specs.First.{Group, Quoted, IsFirst, is_tried, group_of}
+use Rattle.luf_byte.specs.Class.{is_line_byte, in_line}
+use Rattle.luf_byte.specs.Front.{begins}
+use Rattle.luf_lex.specs.Spelling.{Spells, IsHashLine}
+use Rattle.luf_byte.specs.LineEnd.{IsLineEnd}
+use Rattle.luf_lex.specs.First.{IsFirst, is_tried, group_of}
+use Rattle.luf_lex.specs.declared.group.Group.{Group}
+use Rattle.luf_lex.specs.declared.group.Group.TheVariants.{Quoted}
 use Rattle.luf_lex.specs.Cut.{Cuts, IsCut, mark_length, hash_length, head_of, head_end}
 use Rattle.luf_lex.specs.Tokens.{tokens_of, toks_of, spellings_of}
 use Rattle.luf_lex.specs.declared.token.Tok.{Tok}
@@ -25,7 +28,7 @@ use Rattle.luf_tree.proofs.TokenLaws.{chunk_no_hash, bracket_no_equal}
 use Rattle.luf_work.specs.Minified.{is_hash_line, hash_text, IsSource, SameTokens}
 use Rattle.luf_work.specs.Text.{IsJoined, nothing, alone, apart, spaced}
 use Rattle.luf_guard.proofs.Before.{spelled_some}
-use Rattle.luf_guard.proofs.Spellings.{SpelledAt, spelled_at}
+use Rattle.luf_lex.proofs.PieceSpellings.{SpelledAt, spelled_at}
 use Rattle.luf_guard.proofs.Words.{run_before, begins_some, begins_front}
 use Rattle.luf_work.proofs.FirstByte.{no_line, no_mark, no_hash}
 use Rattle.luf_work.proofs.TokensCut.{Spelled, BracketsStop, TextCut, with_other, text_cut}

@@ -9,7 +9,7 @@ use Rattle.luf_lex.specs.Cut.{Cuts, IsCut, mark_length, head_of, head_end}
 use Rattle.luf_lex.specs.Tokens.{toks_of, spellings_of}
 use Rattle.luf_lex.specs.declared.token.Kind.TheVariants.{HashLine, Mark}
 use Rattle.luf_lex.specs.declared.token.Piece.{Piece}
-use Rattle.luf_guard.specs.Space.{IsSpelling}
+use Rattle.luf_guard.specs.Space.{IsTokenSpelling}
 use Rattle.luf_guard.proofs.Spellings.{spelling_at}
 use Rattle.luf_work.specs.Next.{IsNext, first, next_apart, next_spaced}
 use Rattle.luf_work.specs.Text.{IsJoined, nothing, alone, apart, spaced}
@@ -78,12 +78,12 @@ in_front (y ∷ xs) (suc n) zero x found = found
 in_front (y ∷ xs) (suc n) (suc m) x found = in_front xs n m x found
 
 -- the last of the tokens, if there is one, is the spelling of a token
-last_spelled : (tokens : List (List ℕ)) → ((n : ℕ) (a : List ℕ) → slice_get tokens n ≡ Some a → IsSpelling a) → (a : List ℕ) → last_of tokens ≡ Some a → IsSpelling a
+last_spelled : (tokens : List (List ℕ)) → ((n : ℕ) (a : List ℕ) → slice_get tokens n ≡ Some a → IsTokenSpelling a) → (a : List ℕ) → last_of tokens ≡ Some a → IsTokenSpelling a
 last_spelled [] each a found = cc
 last_spelled (b ∷ []) each a found = each 0 a found
 last_spelled (b ∷ c ∷ rest) each a found = last_spelled (c ∷ rest) (λ n. each (suc n)) a found
 
-pub before_spelled : (source : List ℕ) (pieces : List Piece) (n : ℕ) (old now : List ℕ) (before : Option (Bor (List ℕ))) → IsCut source pieces → Written source pieces n old now (option_copied before) → IfSome before (λ a. IsSpelling a.now)
+pub before_spelled : (source : List ℕ) (pieces : List Piece) (n : ℕ) (old now : List ℕ) (before : Option (Bor (List ℕ))) → IsCut source pieces → Written source pieces n old now (option_copied before) → IfSome before (λ a. IsTokenSpelling a.now)
 before_spelled source pieces n old now None cut w = tt
 before_spelled source pieces n old now (Some a) cut w =
     last_spelled (take n (spellings_of source pieces)) (λ m b found. spelling_at source pieces cut m b (in_front (spellings_of source pieces) n m b found)) a.now (sym w.last)

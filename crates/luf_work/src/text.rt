@@ -4,7 +4,7 @@ ghost use Rattle.std.specs.Option.{option_copied};
 ghost use Rattle.luf_lex.specs.Cut.{IsCut};
 ghost use Rattle.luf_lex.specs.Tokens.{spellings_of};
 ghost use Rattle.luf_work.specs.Minified.{hash_line, hash_text};
-ghost use Rattle.luf_guard.specs.Space.{IsSpelling};
+ghost use Rattle.luf_guard.specs.Space.{IsTokenSpelling};
 ghost use Rattle.luf_work.specs.Next.{IsNext};
 ghost use Rattle.luf_work.specs.Text.{IsJoined};
 
@@ -14,8 +14,8 @@ use luf_memory::Memory;
 
 /// Appends a token, behind a space where the one before needs it.
 fn write_token(before: Option<&[u8]>, spelling: &[u8], into: &mut Vec<u8>) -> Result<(), Memory>
-    requires left { IfSome before (λ a. IsSpelling a.now) }
-    requires right { IsSpelling spelling.now }
+    requires left { IfSome before (λ a. IsTokenSpelling a.now) }
+    requires right { IsTokenSpelling spelling.now }
     ensures ok { OnOk result ((more : List ℕ) × IsNext (option_copied before.entry) spelling.now more × (into.new.items ≡ into.old.items ++ more)) }
     ensures err { OnErr result (take (length into.old.items) into.new.items ≡ into.old.items) }
 {

@@ -1,8 +1,8 @@
--- What a token would go on over, as functions. Only private functions and lemmas cite these; the laws in proofs/ tie them
--- to the cut.
+-- What a token would go on over, as functions; the laws in proofs/ tie them to the cut.
 use Rattle.std.specs.Prelude.{ℕ, Bool, false, ◌||◌, ◌&&◌, ◌==◌, List, [], ◌∷◌, if◌then◌else◌}
-use Rattle.luf_num.specs.Digit.{is_digit}
-use Rattle.luf_lex.specs.Byte.{is_letter, is_word_byte, begins}
+use Rattle.std.specs.Str.{byte}
+use Rattle.luf_byte.specs.Class.{is_digit, is_letter, is_word_byte}
+use Rattle.luf_byte.specs.Front.{begins}
 use Rattle.luf_lex.specs.First.{begins_numeral}
 use Rattle.luf_lex.specs.declared.token.Tok.{Tok}
 use Rattle.luf_lex.specs.declared.token.Tok.TheVariants.{Name, Number, Word, Sign}
@@ -11,20 +11,20 @@ use Rattle.luf_lex.specs.declared.token.Sign.TheVariants.{Minus, Slash, Tilde, L
 
 -- a letter, a digit, `_` or a point
 abbrev pub goes_word : ℕ → Bool
-goes_word c = is_word_byte c || c == 46
+goes_word c = is_word_byte c || c == byte "."
 
 -- with which next byte a sign begins something longer
 abbrev pub sign_goes_on : Mark → ℕ → Bool
-sign_goes_on Minus c = c == 45
-sign_goes_on Slash c = c == 47
-sign_goes_on Tilde c = c == 61
-sign_goes_on Less c = c == 60 || c == 61
-sign_goes_on Greater c = c == 62 || c == 61
-sign_goes_on Assign c = c == 61
-sign_goes_on LeftBracket c = c == 91
-sign_goes_on Colon c = c == 58
-sign_goes_on Dot c = c == 46 || is_digit c
-sign_goes_on DotDot c = c == 46
+sign_goes_on Minus c = c == byte "-"
+sign_goes_on Slash c = c == byte "/"
+sign_goes_on Tilde c = c == byte "="
+sign_goes_on Less c = c == byte "<" || c == byte "="
+sign_goes_on Greater c = c == byte ">" || c == byte "="
+sign_goes_on Assign c = c == byte "="
+sign_goes_on LeftBracket c = c == byte "["
+sign_goes_on Colon c = c == byte ":"
+sign_goes_on Dot c = c == byte "." || is_digit c
+sign_goes_on DotDot c = c == byte "."
 sign_goes_on _ c = false
 
 -- with which next byte a token begins something longer
@@ -38,17 +38,17 @@ goes_on _ c = false
 -- the same for a sign by its bytes
 abbrev pub sign_joins : List ℕ → ℕ → Bool
 sign_joins (a ∷ []) c =
-    if a == 45 then c == 45
-    else if a == 47 then c == 47
-    else if a == 126 then c == 61
-    else if a == 60 then c == 60 || c == 61
-    else if a == 62 then c == 62 || c == 61
-    else if a == 61 then c == 61
-    else if a == 91 then c == 91
-    else if a == 58 then c == 58
-    else if a == 46 then c == 46 || is_digit c
+    if a == byte "-" then c == byte "-"
+    else if a == byte "/" then c == byte "/"
+    else if a == byte "~" then c == byte "="
+    else if a == byte "<" then c == byte "<" || c == byte "="
+    else if a == byte ">" then c == byte ">" || c == byte "="
+    else if a == byte "=" then c == byte "="
+    else if a == byte "[" then c == byte "["
+    else if a == byte ":" then c == byte ":"
+    else if a == byte "." then c == byte "." || is_digit c
     else false
-sign_joins (a ∷ b ∷ []) c = a == 46 && (b == 46 && c == 46)
+sign_joins (a ∷ b ∷ []) c = a == byte "." && (b == byte "." && c == byte ".")
 sign_joins _ c = false
 
 -- and for a token by its bytes

@@ -6,12 +6,12 @@ use Rattle.luf_lex.specs.declared.note.Note.{Note}
 use Rattle.luf_lex.specs.declared.token.Piece.{Piece}
 
 -- the notes from bound n to the next, or to the end
-abbrev pub stretch : List Note → List ℕ → ℕ → List Note
-stretch notes [] n = []
-stretch notes (a ∷ []) zero = drop a notes
-stretch notes (a ∷ []) (suc n) = []
-stretch notes (a ∷ b ∷ bounds) zero = slice_range notes a b
-stretch notes (a ∷ b ∷ bounds) (suc n) = stretch notes (b ∷ bounds) n
+abbrev pub notes_at : List Note → List ℕ → ℕ → List Note
+notes_at notes [] n = []
+notes_at notes (a ∷ []) zero = drop a notes
+notes_at notes (a ∷ []) (suc n) = []
+notes_at notes (a ∷ b ∷ bounds) zero = slice_range notes a b
+notes_at notes (a ∷ b ∷ bounds) (suc n) = notes_at notes (b ∷ bounds) n
 
 -- no bound is less than the one before it, nor above this end
 abbrev pub IsRising : ℕ → List ℕ → Type 0
@@ -23,4 +23,4 @@ IsRising end (a ∷ b ∷ bounds) = (a ≤ b) × IsRising end (b ∷ bounds)
 pub record IsLeadIndex (notes : List Note) (bounds : List ℕ) (pieces : List Piece) : Type 0 where
   pub rising : IsRising (length notes) bounds
   pub count : length bounds ≡ length (toks_of pieces) + 2
-  pub leads : (n : ℕ) → stretch notes bounds n ≡ lead_of pieces n
+  pub leads : (n : ℕ) → notes_at notes bounds n ≡ lead_of pieces n
