@@ -42,10 +42,10 @@ spelled part = part.spelling
 part_is : (x y : Part) → x.spelling ≡ y.spelling → x.value ≡ y.value → x ≡ y
 part_is x y e f = ap (λ s. record { spelling = s; value = x.value }) e ∙ ap (λ v. record { spelling = y.spelling; value = v }) f
 
-plain_is_no_backslash : (q b : ℕ) → is_plain q b ≡ true → b ≢ 92
+pub plain_is_no_backslash : (q b : ℕ) → is_plain q b ≡ true → b ≢ 92
 plain_is_no_backslash q b h e = grind (arith, nat_tests)
 
-first_same : (a b : ℕ) (m n : List ℕ) → a ∷ m ≡ b ∷ n → (a ≡ b) × (m ≡ n)
+pub first_same : (a b : ℕ) (m n : List ℕ) → a ∷ m ≡ b ∷ n → (a ≡ b) × (m ≡ n)
 first_same a b m n e = (cc, cc)
 
 one_byte : (b c : ℕ) → b ≡ c → b ∷ [] ≡ c ∷ []
@@ -65,18 +65,18 @@ part_is_no_quote : {q : ℕ} {p m v next : List ℕ} → is_quote q ≡ true →
 part_is_no_quote {next = next} quote (rule.plain q b m h) e = plain_is_no_quote q b h (first_same b q m next e).0
 part_is_no_quote {next = next} quote (rule.escape q f m v h) e = backslash_is_no_quote q quote (first_same 92 q (f ++ m) next e).0
 
-no_part_at_quote : (q : ℕ) (next : List ℕ) → is_quote q ≡ true → NoPiece (IsPartOf q) spelled (q ∷ next)
+pub no_part_at_quote : (q : ℕ) (next : List ℕ) → is_quote q ≡ true → NoPiece (IsPartOf q) spelled (q ∷ next)
 no_part_at_quote q next quote x m is e = part_is_no_quote quote is e
 
 part_is_not_bad : {q : ℕ} {p m v : List ℕ} (next : List ℕ) → NoEscape next → IsPart q p m v → p ++ m ≡ 92 ∷ next → ⊥
 part_is_not_bad next none (rule.plain q b m h) e = plain_is_no_backslash q b h (first_same b 92 m next e).0
 part_is_not_bad next none (rule.escape q f m v h) e = none f m v (sym (first_same 92 92 (f ++ m) next e).1) h
 
-no_part_at_bad : (q : ℕ) (next : List ℕ) → NoEscape next → NoPiece (IsPartOf q) spelled (92 ∷ next)
+pub no_part_at_bad : (q : ℕ) (next : List ℕ) → NoEscape next → NoPiece (IsPartOf q) spelled (92 ∷ next)
 no_part_at_bad q next none x m is e = part_is_not_bad next none is e
 
 -- two readings of one short string
-same_reading : (q : ℕ) (xs ys : List Part) (m n : List ℕ) → AreParts q xs m → AreParts q ys n → NoPiece (IsPartOf q) spelled m → NoPiece (IsPartOf q) spelled n
+pub same_reading : (q : ℕ) (xs ys : List Part) (m n : List ℕ) → AreParts q xs m → AreParts q ys n → NoPiece (IsPartOf q) spelled m → NoPiece (IsPartOf q) spelled n
     → q ∷ (spelling_of xs ++ m) ≡ q ∷ (spelling_of ys ++ n) → (xs ≡ ys) × (m ≡ n)
 same_reading q xs ys m n all others stop stop' e = same_pieces (IsPartOf q) spelled (parts_determined q) xs ys m n all others stop stop' (first_same q q (spelling_of xs ++ m) (spelling_of ys ++ n) e).1
 

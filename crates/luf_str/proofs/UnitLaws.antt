@@ -60,7 +60,7 @@ quote_is_no_bracket q h e = elim (quote_cases q h) [ inl x ↦ omega arith | inr
 pub plain_is_no_quote : (q b : ℕ) → is_plain q b ≡ true → b ≢ q
 plain_is_no_quote q b h e = grind (arith, nat_tests)
 
-plain_is_no_line : (q b : ℕ) → is_plain q b ≡ true → is_line_byte b ≡ true → ⊥
+pub plain_is_no_line : (q b : ℕ) → is_plain q b ≡ true → is_line_byte b ≡ true → ⊥
 plain_is_no_line q b h line = grind (arith, nat_tests)
 
 -- a unit does not begin with the quote
@@ -193,7 +193,7 @@ pub only_quote : (q : ℕ) (next : List ℕ) → is_quote q ≡ true → IsRest 
 only_quote q next quote ([], all, e) at = e
 only_quote q next quote (u ∷ units, all, e) at = absurd (unit_begins quote all.0 (ap (λ t. get_or t 0 0) (sym (e ∙ append_assoc u (unit_bytes units) (q ∷ []))) ∙ at))
 
-quote_is_no_line : (q : ℕ) → is_quote q ≡ true → is_line_byte q ≡ true → ⊥
+pub quote_is_no_line : (q : ℕ) → is_quote q ≡ true → is_line_byte q ≡ true → ⊥
 quote_is_no_line q quote line = elim (quote_cases q quote) [ inl e ↦ false≢true (ap is_line_byte (sym e) ∙ line) | inr e ↦ false≢true (ap is_line_byte (sym e) ∙ line) ]
 
 -- what is left of a short string does not end before its quote

@@ -1,7 +1,10 @@
 //! Laws of the definitions, each on an empty function.
 
-ghost use Rattle.std.specs.Prelude.{◌≡◌, ℕ, List, [], ◌++◌};
+ghost use Rattle.std.specs.Prelude.{◌≡◌, ℕ, List, [], ◌++◌, Option};
+ghost use Rattle.luf_str.specs.declared.ends.ShortEnd.{ShortEnd};
+ghost use Rattle.luf_str.specs.LongEnd.{IsLongEnd};
 ghost use Rattle.luf_str.specs.Requote.{IsRequoted};
+ghost use Rattle.luf_str.specs.ShortEnd.{IsShortEnd};
 ghost use Rattle.luf_str.specs.Spelling.{IsStringSpelling};
 ghost use Rattle.luf_str.specs.Value.{IsValue, FirstBad};
 
@@ -33,4 +36,14 @@ pub fn spellings_apart()
 /// A string has at most one spelling in other quotes.
 pub fn one_requoted()
     ensures { (spelling requoted other : List ℕ) (q : ℕ) → IsRequoted spelling q requoted → IsRequoted spelling q other → requoted ≡ other }
+{}
+
+/// A string in quotes with which a text begins ends in one way at most.
+pub fn one_short_end()
+    ensures { (text : List ℕ) (one other : ShortEnd) → IsShortEnd text one → IsShortEnd text other → one ≡ other }
+{}
+
+/// A long string with which a text begins ends in one way at most.
+pub fn one_long_end()
+    ensures { (text : List ℕ) (one other : Option ℕ) → IsLongEnd text one → IsLongEnd text other → one ≡ other }
 {}

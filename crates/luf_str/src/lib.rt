@@ -22,7 +22,8 @@ pub use ends::{ShortEnd, first_bad, short_end};
 pub use escapes::Meaning;
 pub use fronts::{Front, front_of};
 pub use laws::{
-    one_bad_place, one_requoted, one_value, spellings_apart, value_excludes_bad, value_spelled,
+    one_bad_place, one_long_end, one_requoted, one_short_end, one_value, spellings_apart,
+    value_excludes_bad, value_spelled,
 };
 pub use quoting::{Counts, Quote, quotes, requote};
 pub use values::{StrErr, value_of};
