@@ -1,7 +1,13 @@
 pub mod LevelLemmas
 pub mod SyntaxEquations
+pub mod SyntaxMapLaws
 pub mod SyntaxKept
 pub mod LevelEquations
+pub mod LevelMap
 pub mod LevelReads
 pub mod LevelExamples
+pub mod EntryLevels
+pub mod EntryExamples
 pub mod TokenLaws
+pub mod Locality
+pub mod Fronts
