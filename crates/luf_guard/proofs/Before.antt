@@ -4,7 +4,8 @@ use Rattle.std.specs.List.{prefix_len}
 use Rattle.std.proofs.lemmas.Bool.{false_from_ne_true, false≢true}
 use Rattle.luf_byte.specs.Class.{is_letter, is_word_byte}
 use Rattle.luf_byte.specs.Front.{begins}
-use Rattle.luf_lex.specs.Spelling.{Spells, opens_long}
+use Rattle.luf_lex.specs.Spelling.{Spells}
+use Rattle.luf_str.specs.LongEnd.{opens_long}
 use Rattle.luf_lex.specs.First.{IsFirst}
 use Rattle.luf_lex.specs.declared.token.Tok.{Tok}
 use Rattle.luf_lex.specs.declared.token.Tok.TheVariants.{Name, Number, Short, Long, Word, Sign}

@@ -7,7 +7,8 @@ use Rattle.luf_byte.specs.Class.{is_digit, is_letter, is_word_byte, is_blank}
 use Rattle.luf_str.specs.Bytes.{is_quote}
 use Rattle.luf_byte.specs.Front.{begins}
 use Rattle.luf_lex.specs.Sign.{sign_spelling}
-use Rattle.luf_lex.specs.Spelling.{Spells, opens_long}
+use Rattle.luf_lex.specs.Spelling.{Spells}
+use Rattle.luf_str.specs.LongEnd.{opens_long}
 use Rattle.luf_lex.specs.First.{IsFirst, begins_numeral}
 use Rattle.luf_lex.specs.declared.token.Tok.{Tok}
 use Rattle.luf_lex.specs.declared.token.Tok.TheVariants.{Name, Number, Short, Long, Word}
@@ -16,7 +17,7 @@ use Rattle.luf_lex.specs.declared.token.Sign.{Sign}
 use Rattle.luf_lex.specs.declared.token.Sign.TheVariants.{Plus, LeftBracket}
 use Rattle.luf_lex.specs.declared.token.Kind.TheVariants.{Token}
 use Rattle.luf_lex.proofs.PlainLemmas.{keyword_letter, sign_no_blank}
-use Rattle.luf_lex.proofs.BracketLemmas.{long_opens}
+use Rattle.luf_str.proofs.BracketLaws.{long_opens}
 use Rattle.luf_guard.specs.Space.{IsTokenSpelling, StandApart, NeedSpace}
 use Rattle.luf_guard.specs.inner.Joins.{goes_on, sign_goes_on, sign_joins, joins, is_needed}
 use Rattle.luf_guard.proofs.Words.{begins_front}

@@ -6,7 +6,7 @@ use Rattle.std.proofs.lemmas.Bool.Decides.{nat_tests}
 use Rattle.luf_byte.specs.Class.{is_digit, is_line_byte, is_letter, is_blank}
 use Rattle.luf_byte.specs.Front.{begins}
 use Rattle.luf_lex.specs.Sign.{sign_spelling, StartsWith}
-use Rattle.luf_lex.specs.Spelling.{opens_long}
+use Rattle.luf_str.specs.LongEnd.{opens_long}
 use Rattle.luf_lex.specs.First.{IsFirst, group_of}
 use Rattle.luf_lex.specs.declared.group.Group.TheVariants.{Other}
 use Rattle.luf_lex.specs.declared.token.Tok.TheVariants as tok

@@ -7,7 +7,8 @@ use Rattle.std.proofs.lemmas.Bool.Decides.{nat_tests}
 use Rattle.luf_byte.specs.Class.{is_digit, is_letter, is_word_byte}
 use Rattle.luf_str.specs.Bytes.{is_quote}
 use Rattle.luf_byte.specs.Front.{begins}
-use Rattle.luf_lex.specs.Spelling.{Spells, opens_long}
+use Rattle.luf_lex.specs.Spelling.{Spells}
+use Rattle.luf_str.specs.LongEnd.{opens_long}
 use Rattle.luf_lex.specs.First.{IsFirst, is_tried, group_of, begins_comment, begins_numeral}
 use Rattle.luf_lex.specs.declared.group.Group.TheVariants.{Quoted, Bracketed, Commented, Other, Numeric}
 use Rattle.luf_lex.specs.declared.token.Tok.{Tok}

@@ -6,8 +6,8 @@ use Rattle.std.proofs.lemmas.List.{take-append-drop}
 use Rattle.luf_num.specs.Numeral.{HasNumeralForm}
 use Rattle.luf_byte.specs.Class.{is_line_byte}
 use Rattle.luf_str.specs.Bytes.{is_quote, is_plain}
-use Rattle.luf_str.specs.Pieces.{IsLineEnd}
-use Rattle.luf_str.specs.Escape.{IsEscape, NoEscape}
+use Rattle.luf_byte.specs.LineEnd.{IsLineEndBefore}
+use Rattle.luf_str.specs.Escape.{IsEscape, NoEscape, IsBadEscape}
 use Rattle.luf_str.specs.Escape as escape_rule
 use Rattle.luf_str.specs.Value.{IsPart, Part, spelling_of, AreParts}
 use Rattle.luf_str.specs.Value as part_rule
@@ -18,8 +18,9 @@ use Rattle.luf_str.specs.declared.ends.ShortEnd.TheVariants as end
 use Rattle.luf_str.proofs.InPlace.{same_pieces, IsDetermined, NoPiece}
 use Rattle.luf_str.proofs.UnitLaws.{backslash_is_no_quote}
 use Rattle.luf_str.proofs.Unique.{IsPartOf, spelled, same_escape}
-use Rattle.luf_lex.specs.Spelling.{opens_long, IsLongComment, IsShortString}
-use Rattle.luf_lex.specs.First.{group_of, is_tried, numeral_length, IsFirst, HasNone, IsOpenLong, IsFault}
+use Rattle.luf_str.specs.LongEnd.{opens_long, IsOpenLong}
+use Rattle.luf_lex.specs.Spelling.{IsLongComment, IsShortString}
+use Rattle.luf_lex.specs.First.{group_of, is_tried, numeral_length, IsFirst, HasNone, IsFault}
 use Rattle.luf_lex.specs.declared.group.Group.{Group}
 use Rattle.luf_lex.specs.declared.group.Group.TheVariants.{Quoted, Bracketed, Commented, Numeric, Other}
 use Rattle.luf_lex.specs.First as fault
@@ -86,7 +87,7 @@ part_some : {q : ℕ} {p m v : List ℕ} → IsPart q p m v → p ++ m ≡ [] �
 part_some (part_rule.plain q b m h) e = absurd cc
 part_some (part_rule.escape q f m v h) e = absurd cc
 
-line_some : (line next : List ℕ) → IsLineEnd line next → 0 < length line
+line_some : (line next : List ℕ) → IsLineEndBefore line next → 0 < length line
 line_some [] next h = absurd h
 line_some (a ∷ line) next h = omega arith
 
@@ -152,7 +153,7 @@ open_is_unclosed q rest behind quote (inr e) closes = backslash_is_no_quote q qu
 
 -- what stands where a reading of a short string stops
 abbrev pub Says : LexWhat → List ℕ → Type 0
-Says BadEscape rest = (next : List ℕ) × (rest ≡ 92 ∷ next) × (next ≢ []) × NoEscape next
+Says BadEscape rest = (next : List ℕ) × (rest ≡ 92 ∷ next) × IsBadEscape next
 Says OpenString rest = IsEnd rest ⊎ (rest ≡ 92 ∷ [])
 Says _ rest = ⊥
 
@@ -160,16 +161,13 @@ abbrev pub StopsAt : LexWhat → List ℕ → Type 0
 StopsAt what text = (q : ℕ) × (parts : List Part) × (rest : List ℕ) × (is_quote q ≡ true) × AreParts q parts rest × (text ≡ q ∷ (spelling_of parts ++ rest)) × Says what rest
 
 bad_stops : (text : List ℕ) (at : ℕ) → IsShortEnd text (end.Bad at) → StopsAt BadEscape text
-bad_stops text at ((q, parts, next, quote, are, none, e, place), within) = (q, parts, 92 ∷ next, quote, are, e, (next, refl, some, none))
-  where
-    some : next ≢ []
-    some nothing = omega (arith, within, place, ap length e, length-append (spelling_of parts) (92 ∷ next), ap length nothing)
+bad_stops text at (q, parts, next, quote, are, bad, e, place) = (q, parts, 92 ∷ next, quote, are, e, (next, refl, bad))
 
 open_stops : (text : List ℕ) → IsShortEnd text end.Open → StopsAt OpenString text
 open_stops text (q, parts, rest, quote, are, e, says) = (q, parts, rest, quote, are, e, says)
 
 says_stops : (q : ℕ) (rest : List ℕ) (what : LexWhat) → is_quote q ≡ true → Says what rest → Stops q rest
-says_stops q rest BadEscape quote a = subst (Stops q) (sym a.1) (stops_bad q a.0 a.3)
+says_stops q rest BadEscape quote a = subst (Stops q) (sym a.1) (stops_bad q a.0 a.2.1)
 says_stops q rest OpenString quote a = stops_open q rest quote a
 says_stops q rest _ quote a = absurd a
 
@@ -253,8 +251,8 @@ bad_is_not_open rest next e some (inr lone) = some (first_same 92 92 next [] (sy
 same_says : (rest : List ℕ) (w v : LexWhat) → Says w rest → Says v rest → w ≡ v
 same_says rest BadEscape BadEscape a b = refl
 same_says rest OpenString OpenString a b = refl
-same_says rest BadEscape OpenString a b = absurd (bad_is_not_open rest a.0 a.1 a.2 b)
-same_says rest OpenString BadEscape a b = absurd (bad_is_not_open rest b.0 b.1 b.2 a)
+same_says rest BadEscape OpenString a b = absurd (bad_is_not_open rest a.0 a.1 a.2.0 b)
+same_says rest OpenString BadEscape a b = absurd (bad_is_not_open rest b.0 b.1 b.2.0 a)
 same_says rest BadEscape _ a b = absurd b
 same_says rest OpenString _ a b = absurd b
 same_says rest _ v a b = absurd a

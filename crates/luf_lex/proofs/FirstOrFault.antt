@@ -11,7 +11,7 @@ use Rattle.luf_str.specs.declared.ends.ShortEnd.TheVariants as end
 use Rattle.luf_str.specs.ShortEnd.{IsShortEnd}
 use Rattle.luf_byte.specs.Front.{begins}
 use Rattle.luf_byte.specs.LineEnd.{line_end_length}
-use Rattle.luf_lex.specs.Spelling.{opens_long}
+use Rattle.luf_str.specs.LongEnd.{opens_long}
 use Rattle.luf_lex.specs.Sign.{sign_spelling}
 use Rattle.luf_lex.specs.First.{group_of, begins_hexadecimal, numeral_tail, numeral_length, IsFirst, IsFault, no_token, bad_escape, open_string, open_long}
 use Rattle.luf_lex.specs.declared.group.Group.{Group}

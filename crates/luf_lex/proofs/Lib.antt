@@ -4,7 +4,6 @@ pub mod NumeralLemmas
 pub mod TokenLemmas
 pub mod SpellingLemmas
 pub mod CutLemmas
-pub mod BracketLemmas
 pub mod LoneKind
 pub mod StringLemmas
 pub mod CommentLemmas

@@ -2,10 +2,9 @@
 use Rattle.std.proofs.Common.{◌≡◌, ℕ, zero, suc, ◌+◌, ◌≤◌, ◌⊎◌, true, List, length, take, drop, refl, sym, ap, ◌∙◌, subst, arith, inl, inr}
 use Rattle.std.proofs.lemmas.Bool.{cases_lt}
 use Rattle.luf_str.specs.Spelling.{closing, IsLongSpelling}
-use Rattle.luf_lex.specs.Spelling.{opens_long}
-use Rattle.luf_lex.specs.First.{IsOpenLong}
+use Rattle.luf_str.specs.LongEnd.{opens_long, IsOpenLong}
 use Rattle.luf_lex.proofs.Decided.{Behind, front_or_not}
-use Rattle.luf_lex.proofs.BracketLemmas.{NoneBelow, level_of, bracket_cut, closed_at, never_closed}
+use Rattle.luf_str.proofs.BracketLaws.{NoneBelow, level_of, bracket_cut, closed_at, never_closed}
 
 -- the first closing bracket of the level, or that there is none
 abbrev Closes : ℕ → List ℕ → Type 0

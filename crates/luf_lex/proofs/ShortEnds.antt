@@ -10,10 +10,10 @@ use Rattle.luf_str.specs.declared.ends.ShortEnd.TheVariants as end
 use Rattle.luf_str.specs.Bytes.{is_quote}
 use Rattle.luf_byte.specs.Class.{is_line_byte}
 use Rattle.luf_str.specs.Front.{IsFront}
-use Rattle.luf_str.specs.Reading.{escape_at}
+use Rattle.luf_str.specs.inner.Reading.{escape_at}
 use Rattle.luf_str.specs.ShortEnd.{IsShortEnd}
 use Rattle.luf_str.proofs.FrontLaws.{quote_front, plain_front, escape_front, lone_front, bad_front}
-use Rattle.luf_str.proofs.PartLaws.{IsReadTo, starts, goes_on, closes_at, is_bad}
+use Rattle.luf_str.proofs.PartLaws.{IsReadTo, starts, part_read, closes_at, is_bad}
 
 -- ---- what a text begins with, read as the inside of a string
 
@@ -52,12 +52,8 @@ abbrev GoesOn : ℕ → List ℕ → ℕ → Type 0
 GoesOn q text at = (n : ℕ) (done : List ℕ) → 0 < n → at + n ≤ length text → IsReadTo q text (at + n) (drop (at + n) text) done → HasEnd text
 
 by_front : (q : ℕ) (text : List ℕ) (at : ℕ) (done : List ℕ) → at ≤ length text → IsReadTo q text at (drop at text) done → GoesOn q text at → (f : Front) → IsFront q (drop at text) f → HasEnd text
-by_front q text at done within r on (front.Part n m) is = let more = goes_on q text at done (drop at text) n m r within refl is in on n _ is.0 more.0 more.1
-by_front q text at done within r on front.BadEscape is = (end.Bad at, (is_bad q text at (drop at text) done is.0 r is.1 is.3, behind is.0 is.1 is.2))
-  where
-    behind : (next : List ℕ) → drop at text ≡ 92 ∷ next → next ≢ [] → at + 1 < length text
-    behind [] e some = absurd (some refl)
-    behind (c ∷ next) e some = omega (arith, ap length e, length-drop at text)
+by_front q text at done within r on (front.Part n m) is = let more = part_read q text at done (drop at text) n m r within refl is in on n _ is.0 more.0 more.1
+by_front q text at done within r on front.BadEscape is = (end.Bad at, is_bad q text at (drop at text) done is.0 r is.1 is.2)
 by_front q text at done within r on front.LoneBackslash is = (end.Open, (q, r.parts, drop at text, r.quote, r.are, r.text, inr is))
 by_front q text at done within r on front.Quote is = let closed = closes_at q text at (drop at text) done is.0 r is.1 in (end.Closed (at + 1), (closed.0, (done, closed.1)))
 by_front q text at done within r on front.End is = (end.Open, (q, r.parts, drop at text, r.quote, r.are, r.text, inl is))

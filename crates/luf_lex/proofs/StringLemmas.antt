@@ -1,7 +1,7 @@
 -- Strings at the front of a text.
 use Rattle.std.proofs.Common.{◌≡◌, ℕ, zero, suc, ◌<◌, ◌≤◌, true, List, [], length, get_or, take, refl, ap, ◌∙◌, arith, inl, inr}
 use Rattle.luf_str.specs.Bytes.{is_quote}
-use Rattle.luf_str.specs.Spelling.{IsLongSpelling, IsSpelling}
+use Rattle.luf_str.specs.Spelling.{IsLongSpelling, IsStringSpelling}
 use Rattle.luf_str.proofs.Apart.{valued_is_spelled}
 use Rattle.luf_lex.specs.Spelling.{IsShortString}
 use Rattle.luf_lex.specs.First.{group_of, IsFirst}
@@ -26,7 +26,7 @@ short_some : (text : List ℕ) (n : ℕ) → IsShortString (take n text) → 0 <
 short_some text zero short = absurd (let e : [] ≡ _ = short.1.4 in cc)
 short_some text (suc n) short = omega arith
 
-short_is_spelled : (text : List ℕ) → IsShortString text → IsSpelling text
+short_is_spelled : (text : List ℕ) → IsShortString text → IsStringSpelling text
 short_is_spelled text s = valued_is_spelled text s.0 (inl s.1)
 
 pub first_short : (text : List ℕ) (n : ℕ) → group_of text ≡ Quoted → n ≤ length text → IsShortString (take n text) → IsFirst text (Token Short) n

@@ -8,7 +8,8 @@ use Rattle.luf_str.specs.Spelling.{IsLongSpelling}
 use Rattle.luf_str.specs.ShortEnd.{IsShortEnd}
 use Rattle.luf_str.specs.declared.ends.ShortEnd.TheVariants as end
 use Rattle.luf_byte.specs.Front.{begins}
-use Rattle.luf_lex.specs.Spelling.{Spells, IsLongComment, opens_long}
+use Rattle.luf_lex.specs.Spelling.{Spells, IsLongComment}
+use Rattle.luf_str.specs.LongEnd.{opens_long, IsOpenLong}
 use Rattle.luf_lex.specs.declared.group.Group.{Group}
 use Rattle.luf_lex.specs.declared.group.Group.TheVariants.{Quoted, Bracketed, Commented, Numeric, Other}
 use Rattle.luf_lex.specs.declared.fault.LexWhat.{LexWhat}
@@ -82,10 +83,6 @@ pub record IsFirst (text : List ℕ) (kind : Kind) (n : ℕ) : Type 0 where
 -- no piece begins the text
 abbrev pub HasNone : List ℕ → Type 0
 HasNone text = (kind : Kind) (n : ℕ) → IsFirst text kind n → ⊥
-
--- the text begins with a long bracket, and no front of it is a long string
-abbrev pub IsOpenLong : List ℕ → Type 0
-IsOpenLong text = IsTrue (opens_long text) × ((n : ℕ) → IsLongSpelling (take n text) → ⊥)
 
 -- Why a text has no first piece.
 pub data IsFault : List ℕ → LexWhat → Type 0 where

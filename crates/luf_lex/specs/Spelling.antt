@@ -4,6 +4,7 @@ use Rattle.std.specs.List.{list_all, prefix_len}
 use Rattle.std.specs.Str.{byte}
 use Rattle.luf_num.specs.Numeral.{HasNumeralForm}
 use Rattle.luf_str.specs.Spelling.{IsLongSpelling}
+use Rattle.luf_str.specs.LongEnd.{opens_long}
 use Rattle.luf_str.specs.Value.{IsShortValue}
 use Rattle.luf_byte.specs.Class.{is_letter, is_word_byte, is_blank, in_line}
 use Rattle.luf_byte.specs.Front.{begins}
@@ -29,11 +30,6 @@ IsShortString text = (value : List ℕ) × IsShortValue text value
 pub record IsRun (test : ℕ → Bool) (text : List ℕ) : Type 0 where
   pub first : IsTrue (begins test text)
   pub each : IsTrue (list_all test text)
-
--- whether a text begins with a long bracket: `[`, any number of `=`, and `[`
-abbrev pub opens_long : List ℕ → Bool
-opens_long [] = false
-opens_long (b ∷ rest) = b == byte "[" && begins (λ c. c == byte "[") (drop (prefix_len (λ c. c == byte "=") rest) rest)
 
 -- `--` and then no long bracket, and no line end
 pub record IsShortComment (text : List ℕ) : Type 0 where

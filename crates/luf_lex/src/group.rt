@@ -4,8 +4,8 @@ ghost use Rattle.luf_lex.specs.First as first;
 ghost use Rattle.luf_str.specs.Bytes.{is_quote};
 ghost use Rattle.luf_byte.specs.Front.{begins};
 
-use crate::bracket::opens_long;
 use luf_byte::is_digit;
+use luf_str::opens_long;
 
 /// What is tried at a place of a source: where a short string, a long bracket, a comment or a numeral begins,
 /// nothing else is. The definition of the first piece is told by it.

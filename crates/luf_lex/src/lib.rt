@@ -1,7 +1,6 @@
 //! The pieces of a source: its tokens and what lies between them, each with its place.
 #![tactic(auto)]
 
-mod bracket;
 mod comment;
 mod cutting;
 mod fault;

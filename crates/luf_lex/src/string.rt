@@ -3,16 +3,15 @@ ghost use Rattle.std.specs.Prelude.{◌≡◌, MatchResult};
 ghost use Rattle.luf_lex.specs.First.{group_of, IsFirst, IsFault};
 ghost use Rattle.luf_lex.specs.declared.group.Group.TheVariants.{Quoted, Bracketed};
 
-use crate::bracket::long_length;
 use crate::{Kind, LexWhat, Tok};
-use luf_str::{ShortEnd, short_end};
+use luf_str::{ShortEnd, long_end, short_end};
 
 /// The length of the long string that a text begins with, or why there is none.
 pub(crate) fn long_string(text: &[u8]) -> Result<usize, LexWhat>
     requires { group_of text.now ≡ Bracketed }
     ensures { MatchResult result (λ n. IsFirst text.now (Kind.Token Tok.Long) n) (λ what. IsFault text.now what) }
 {
-    match long_length(text) {
+    match long_end(text) {
         Some(length) => Ok(length),
         None => Err(LexWhat::OpenLong),
     }
