@@ -13,8 +13,7 @@ use Rattle.luf_lex.specs.declared.token.Piece.{Piece}
 use Rattle.luf_lex.proofs.OneCut.{one_cut, cut_excludes_fault, one_fault}
 use Rattle.luf_tree.specs.declared.tree.Chunk.{Chunk}
 use Rattle.luf_tree.specs.Grammar.{IsChunk}
-use Rattle.luf_tree.specs.Level.{depth_of}
-use Rattle.luf_work.specs.Limits.{source_limit, level_limit}
+use Rattle.luf_work.specs.Limits.{source_limit}
 use Rattle.luf_work.specs.Minify.{IsMinified, IsMinifyAccepted, HasLargeText, IsMinifyRefusal}
 use Rattle.luf_work.specs.Refusals.{start_of, IsLexicalAt, HasNoTreeAt, IsSourceRefusal, IsSameRefusal, AnswersRefusal}
 use Rattle.luf_work.specs.Source.{IsSource, IsAccepted}

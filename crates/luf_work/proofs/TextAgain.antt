@@ -1,5 +1,5 @@
 -- The text of a source has its tokens.
-use Rattle.std.proofs.Common.{◌≡◌, ℕ, zero, suc, ◌+◌, ◌-◌, ◌<◌, ◌≤◌, inl, inr, Bool, true, false, cond, eqb, List, [], ◌∷◌, ◌++◌, Some, length, codes, length-append, append-nil, append_assoc, take, drop, get_or, codes, refl, sym, ap, ◌∙◌, subst, arith}
+use Rattle.std.proofs.Common.{◌≡◌, ℕ, zero, suc, ◌+◌, ◌-◌, ◌<◌, ◌≤◌, Bool, true, false, cond, eqb, not, ◌&&◌, List, [], ◌∷◌, ◌++◌, Some, length, length-append, append-nil, append_assoc, take, drop, get_or, codes, refl, sym, ap, ◌∙◌, subst, arith}
 use Rattle.std.specs.List.{prefix_len}
 use Rattle.std.specs.Prelude.{slice_range, slice_get, map}
 use Rattle.std.proofs.Math.Seq.{take-append_seam, drop-append_seam, drop-drop}
@@ -9,7 +9,7 @@ use Rattle.std.proofs.lemmas.List.{length-map}
 use Rattle.luf_byte.specs.Class.{is_line_byte, in_line}
 use Rattle.luf_byte.specs.Front.{begins}
 use Rattle.luf_lex.specs.Spelling.{Spells, IsHashLine}
-use Rattle.luf_byte.specs.LineEnd.{IsLineEnd}
+use Rattle.luf_byte.specs.LineEnd.{line_end_length}
 use Rattle.luf_lex.specs.First.{IsFirst, is_tried, group_of}
 use Rattle.luf_lex.specs.declared.group.Group.{Group}
 use Rattle.luf_lex.specs.declared.group.Group.TheVariants.{Quoted}
@@ -216,19 +216,12 @@ hash_text_front a x pieces h cut =
     ∙ ap (λ t. t ++ codes "\n") (take-append_seam a (10 ∷ x))
 
 -- a line feed before what begins with no byte of a line end is a piece
-feed_longest : (x : List ℕ) (m : ℕ) → begins is_line_byte x ≡ false → 1 < m → m ≤ length (10 ∷ x) → IsLineEnd (take m (10 ∷ x)) → ⊥
-feed_longest x zero stop more within is = omega (arith, more)
-feed_longest x (suc zero) stop more within is = omega (arith, more)
-feed_longest [] (suc (suc m)) stop more within is = omega (arith, within)
-feed_longest (c ∷ x) (suc (suc m)) stop more within (inl e) = omega (arith, ap length e)
-feed_longest (c ∷ x) (suc (suc m)) stop more within (inr (inl e)) = omega (arith, ap length e)
-feed_longest (c ∷ x) (suc (suc m)) stop more within (inr (inr (inl e))) =
-    let last : c ≡ 13 = ap (λ (l : List ℕ). get_or l 1 0) e in
-    false≢true (sym stop ∙ ap is_line_byte last)
-feed_longest (c ∷ x) (suc (suc m)) stop more within (inr (inr (inr e))) = omega (arith, ap (λ (l : List ℕ). get_or l 0 0) e)
+feed_length : (x : List ℕ) → begins is_line_byte x ≡ false → 1 ≡ line_end_length (10 ∷ x)
+feed_length [] stop = refl
+feed_length (c ∷ x) stop = sym (ap (λ v. cond (v && not (eqb 10 c)) 2 1) stop)
 
 feed_first : (x : List ℕ) → begins is_line_byte x ≡ false → IsFirst (10 ∷ x) LineEnd 1
-feed_first x stop = line_end_first (10 ∷ x) 1 refl refl (omega arith) (inl refl) (λ m more within is. feed_longest x m stop more within is)
+feed_first x stop = line_end_first (10 ∷ x) 1 refl refl (feed_length x stop)
 
 -- ---- the tokens of the text
 

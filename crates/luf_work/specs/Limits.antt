@@ -8,7 +8,3 @@ source_limit = 4194304
 -- the most bytes of a text that is made from a source
 abbrev pub text_limit : ℕ
 text_limit = 4194304
-
--- TEMP
-abbrev pub level_limit : ℕ
-level_limit = 200

@@ -5,8 +5,8 @@ use Rattle.luf_lex.specs.Tokens.{toks_of}
 use Rattle.luf_lex.specs.declared.token.Piece.{Piece}
 use Rattle.luf_tree.specs.declared.tree.Chunk.{Chunk}
 use Rattle.luf_tree.specs.Grammar.{IsChunk}
-use Rattle.luf_tree.specs.Level.{depth_of}
-use Rattle.luf_work.specs.Limits.{source_limit, level_limit}
+use Rattle.luf_tree.specs.Level.{level_limit, depth_of}
+use Rattle.luf_work.specs.Limits.{source_limit}
 
 -- a source: its pieces, and a tree of its tokens that is nested at most 200 levels deep
 pub record IsSource (source : List ℕ) (pieces : List Piece) (chunk : Chunk) : Type 0 where
