@@ -1,5 +1,5 @@
 // Laws of what is written of a bare program.
-ghost use Rattle.luf_bare.specs.Rank.{RanksInOrder};
+ghost use Rattle.luf_bare.specs.Rank.{RanksCount, RanksInOrder};
 ghost use Rattle.luf_bare.specs.ReadBack.{OneDepth, SignificantAreWritten, TextIsRead, WrittenIsRead};
 
 /// Chunks of one bare program are nested equally deep.
@@ -25,4 +25,9 @@ pub fn written_is_read()
 /// A significant token stands before a place exactly where its rank is less.
 pub fn ranks_in_order()
     ensures { RanksInOrder }
+{}
+
+/// The rank of a significant token is its number among the significant tokens.
+pub fn ranks_count()
+    ensures { RanksCount }
 {}
