@@ -1,10 +1,8 @@
 -- A text of a bare program is read as that program.
-use Rattle.std.proofs.Common.{◌≡◌, ℕ, suc, ◌+◌, ◌-◌, ◌<◌, ◌≤◌, ◌⊎◌, inl, inr, Bool, true, false, Option, Some, None, List, [], ◌∷◌, ◌++◌, map, ap, sym, refl, subst, ◌∙◌, arith}
+use Rattle.std.proofs.Common.{◌≡◌, ℕ, ◌+◌, ◌-◌, ◌<◌, ◌≤◌, ◌⊎◌, inl, inr, Bool, true, false, Option, Some, None, List, [], ◌∷◌, ◌++◌, map, ap, sym, refl, subst, ◌∙◌, arith}
 use Rattle.std.specs.Option.{option_map}
 use Rattle.luf_lex.specs.declared.token.Tok.{Tok}
-use Rattle.luf_lex.specs.declared.token.Tok.TheVariants as tok
-use Rattle.luf_lex.specs.declared.token.Tok.TheVariants.{Name, Number, Short, Long, Word, Sign}
-use Rattle.luf_lex.specs.declared.token.Sign as token_sign
+use Rattle.luf_lex.specs.declared.token.Tok.TheVariants.{Short, Long, Sign}
 use Rattle.luf_lex.specs.declared.token.Sign.TheVariants as sign
 use Rattle.luf_tree.specs.declared.tree.Block.{Block}
 use Rattle.luf_tree.specs.declared.tree.Stat.{Stat}
@@ -25,8 +23,10 @@ use Rattle.luf_tree.specs.TokenSyntax as tokens
 use Rattle.luf_tree.specs.SyntaxOf.{expressions_of, operations_of, suffixes_of, fields_of, statements_of, arms_of, optional_expression_of, optional_block_of, declared_of, first_of_path, rest_of_path, syntax_of_expr, syntax_of_block, syntax_of_stat, syntax_of_field, syntax_of_suffix, syntax_of_step, syntax_of_arm, syntax_of_args, syntax_of_body}
 use Rattle.luf_bare.specs.Bare.{Bare, words_of, before, bare_declared, bare_expression, bare_optional_expression, bare_expressions, bare_operation, bare_operations, bare_suffix, bare_suffixes, bare_arguments, bare_field, bare_fields, bare_statement, bare_statements, bare_arm, bare_arms, bare_block, bare_optional_block, bare_function_body}
 use Rattle.luf_bare.specs.Texts as w
+use Rattle.luf_bare.specs.Writing.{opens}
+use Rattle.luf_bare.proofs.Ends.{between_none, between_one, place_before, exprs_end, field_end}
 use Rattle.luf_bare.specs.Lone.{is_lone, is_lone_item}
-use Rattle.luf_bare.specs.Dropped.{if_room, between, end_of_expression, end_of_expressions, end_of_field, if_dropped, dropped_expression, dropped_for_step, dropped_expressions, dropped_operation, dropped_operations, dropped_suffix, dropped_suffixes, dropped_arguments, dropped_field, dropped_fields, dropped_statement, dropped_statements, dropped_arm, dropped_arms, dropped_block, dropped_else, dropped_body}
+use Rattle.luf_bare.specs.Dropped.{between, if_dropped, dropped_expression, dropped_for_step, dropped_expressions, dropped_operation, dropped_operations, dropped_suffix, dropped_suffixes, dropped_arguments, dropped_field, dropped_fields, dropped_statement, dropped_statements, dropped_arm, dropped_arms, dropped_block, dropped_else, dropped_body}
 use Rattle.luf_bare.specs.Texts.{IsShut, IsStringWord, WritesNames, WritesParams, WritesAttribute, WritesDeclared, WritesPath, WritesMethod, WritesSemicolon, WritesExpr, WritesSteps, WritesOperand, WritesSimple, WritesPrefix, WritesVariable, WritesCall, WritesParen, WritesHead, WritesSuffixes, WritesSuffix, WritesArgs, WritesExprs, WritesTable, WritesFields, WritesField, WritesFuncBody, WritesBlock, WritesStats, WritesReturn, WritesStat, WritesTargets, WritesArm, WritesArms, WritesElse, WritesForStep}
 use Rattle.luf_tree.proofs.SyntaxEquations.{nil_syntax, true_syntax, false_syntax, number_syntax, string_syntax, vararg_syntax, name_syntax, paren_syntax, function_syntax, table_syntax, unary_syntax, chain_syntax, power_syntax, suffixed_syntax, empty_syntax, local_syntax, assign_syntax, call_syntax, do_syntax, while_syntax, repeat_syntax, if_syntax, for_syntax, for_in_syntax, function_stat_syntax, local_function_syntax, label_syntax, goto_syntax, break_syntax, return_syntax, item_syntax, named_syntax, keyed_syntax, dot_syntax, index_syntax, call_suffix_syntax, method_syntax, step_of_syntax, arm_of_syntax, args_of_syntax, block_of_syntax, body_of_syntax}
 
@@ -91,23 +91,6 @@ drop_else b more = dropped_else (optional_block_of (option_map syntax_of_block b
 abbrev drop_for_step : Option Expr → List ℕ → List ℕ
 drop_for_step e more = dropped_for_step (optional_expression_of (option_map syntax_of_expr e)) more
 
-pub between_none : (k : ℕ) (more : List ℕ) → between k k more ≡ more
-between_none k more = let none : k - k ≡ 0 = omega arith in ap (λ z. if_room z k more) none
-
-pub between_one : (i k : ℕ) (more : List ℕ) → i < k → between i k more ≡ i ∷ more
-between_one i k more room = let one : k - i ≡ suc (k - i - 1) = omega arith in ap (λ z. if_room z i more) one
-
-pub place_before : {i k : ℕ} → k ≡ i + 1 → k - 1 ≡ i
-place_before next = omega arith
-
-abbrev sign_opens : token_sign.Sign → Bool
-sign_opens sign.LeftParen = true
-sign_opens _ = false
-
-abbrev opens : Tok → Bool
-opens (tok.Sign s) = sign_opens s
-opens _ = false
-
 abbrev some_opens : Option Tok → Bool
 some_opens None = false
 some_opens (Some t) = opens t
@@ -127,43 +110,6 @@ some_is {s} same = ap (tok_or s) same
 
 no_operator : {t : Tok} {m : ℕ} → t ≡ Sign sign.LeftParen → binary_precedence t ≡ m → 0 < m → ⊥
 no_operator paren is pos = omega (arith, sym (ap binary_precedence paren) ∙ is, pos)
-
--- where parts of the tree end
-mutual
-  expr_end : {toks : List Tok} {n i k : ℕ} {e : Expr} → IsExpr toks n i k e → end_of_expression (syntax_of_expr e) ≡ k
-  expr_end (g.operand_expr d) = operand_end d
-  expr_end (g.chain_expr {i} {k} {first} {rest} _ _ _ _) = ap end_of_expression (chain_syntax i k first rest)
-
-  operand_end : {toks : List Tok} {i k : ℕ} {e : Expr} → IsOperand toks i k e → end_of_expression (syntax_of_expr e) ≡ k
-  operand_end (g.unary_operand {i} {k} {e} _ _ _) = ap end_of_expression (unary_syntax i k e)
-  operand_end (g.power_operand {i} {j} {l} {base} {exponent} _ _ _) = ap end_of_expression (power_syntax i l base j exponent)
-  operand_end (g.simple_operand d) = simple_end d
-
-  simple_end : {toks : List Tok} {i k : ℕ} {e : Expr} → IsSimple toks i k e → end_of_expression (syntax_of_expr e) ≡ k
-  simple_end (g.nil_simple {i} {j} _) = ap end_of_expression (nil_syntax i j)
-  simple_end (g.true_simple {i} {j} _) = ap end_of_expression (true_syntax i j)
-  simple_end (g.false_simple {i} {j} _) = ap end_of_expression (false_syntax i j)
-  simple_end (g.number_simple {i} {j} _) = ap end_of_expression (number_syntax i j)
-  simple_end (g.string_simple {i} {j} _) = ap end_of_expression (string_syntax i j)
-  simple_end (g.vararg_simple {i} {j} _) = ap end_of_expression (vararg_syntax i j)
-  simple_end (g.function_simple {i} {k} {f} _ _) = ap end_of_expression (function_syntax i k f)
-  simple_end (g.table_simple {i} {j} {fields} _) = ap end_of_expression (table_syntax i j fields)
-  simple_end (g.prefix_simple d _) = prefix_end d
-
-  prefix_end : {toks : List Tok} {i k : ℕ} {e : Expr} → IsPrefix toks i k e → end_of_expression (syntax_of_expr e) ≡ k
-  prefix_end (g.variable_prefix (g.name_variable {i} {j} _)) = ap end_of_expression (name_syntax i j)
-  prefix_end (g.variable_prefix (g.suffixed_variable {i} {k} {head} {suffixes} _ _)) = ap end_of_expression (suffixed_syntax i k head suffixes)
-  prefix_end (g.call_prefix (g.suffixed_call {i} {k} {head} {suffixes} _ _)) = ap end_of_expression (suffixed_syntax i k head suffixes)
-  prefix_end (g.paren_prefix (g.paren {i} {l} {e} _ _ _)) = ap end_of_expression (paren_syntax i l e)
-
-pub exprs_end : {toks : List Tok} {i k : ℕ} {es : List Expr} (other : ℕ) → AreExprs toks i k es → end_of_expressions other (expressions_of (map syntax_of_expr es)) ≡ k
-exprs_end other (g.one_expr d) = expr_end d
-exprs_end other (g.more_exprs d _ rest) = exprs_end _ rest
-
-pub field_end : {toks : List Tok} {i k : ℕ} {f : Field} → IsField toks i k f → end_of_field (syntax_of_field f) ≡ k
-field_end (g.keyed_field {key} {value} _ _ _ _ d) = ap end_of_field (keyed_syntax key value) ∙ expr_end d
-field_end (g.named_field {i} {value} _ _ d) = ap end_of_field (named_syntax i value) ∙ expr_end d
-field_end (g.item_field {e} d) = ap end_of_field (item_syntax e) ∙ expr_end d
 
 module _ {X : Type 0} (kind : X → Tok) (added : X → Bool) (toks : List Tok) (says : ℕ → X) where
   -- these words stand from i to k, and the added ones are at the first places up to those that are left
@@ -650,9 +596,9 @@ module _ {X : Type 0} (kind : X → Tok) (added : X → Bool) (toks : List Tok) 
         made _ (g.item_field e.derived) (ap (bare_field (words_of says)) (item_syntax e.tree) ∙ (λ t. syntax.item_field (e.same t))) (ap (λ z. dropped_field z after) (item_syntax e.tree) ∙ e.drops)
 
     read_func_body : {b : syntax.FunctionBody (Bare X)} {words : List X} {i k : ℕ} {ds after : List ℕ} → WritesFuncBody kind added b words → Stand words i k ds after → Is (IsFuncBody toks i k) bare_body drop_body b ds after
-    read_func_body {i} {k} {after} (w.func_body {vararg} {l} {r} {z} {params} {body = b} {params_words} {body_words} h_l w_params h_r w_body h_z) stand =
+    read_func_body {i} {k} {after} (w.func_body {vararg} {left} {right} {end_word} {params} {body = b} {params_words} {body_words} h_l w_params h_r w_body h_z) stand =
         let f_l = first h_l.1 stand in
-        let p_params = part params_words (r ∷ (body_words ++ z ∷ [])) f_l.rest in
+        let p_params = part params_words (right ∷ (body_words ++ end_word ∷ [])) f_l.rest in
         let params = read_params w_params p_params.left in
         let f_r = first h_r.1 p_params.right in
         let p_body = part body_words _ f_r.rest in

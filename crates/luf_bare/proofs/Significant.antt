@@ -22,7 +22,7 @@ use Rattle.luf_tree.specs.Syntax as syntax
 use Rattle.luf_tree.specs.TokenSyntax as tokens
 use Rattle.luf_tree.specs.TokenSyntax.{from_to}
 use Rattle.std.proofs.lemmas.List.{append-nil}
-use Rattle.luf_bare.proofs.Reading.{between_none, between_one, place_before, exprs_end, field_end}
+use Rattle.luf_bare.proofs.Ends.{between_none, between_one, place_before, exprs_end, field_end}
 use Rattle.luf_bare.specs.Significant.{IsFixed}
 use Rattle.luf_bare.specs.Writing.{opens, guarded_if, after_guard, enclosed, written_more_names, written_names, written_parameters, written_attribute, written_declared, written_fields_of_path, written_path, written_method, written_expression, written_for_step, written_more_expressions, written_expressions, written_operation, written_operations, written_suffix, written_suffixes, written_arguments, written_field, written_more_fields, written_fields, written_statement, written_statements, written_arm, written_more_arms, written_arms, written_block, written_else, written_body}
 use Rattle.luf_tree.specs.SyntaxOf.{expressions_of, operations_of, suffixes_of, fields_of, statements_of, arms_of, optional_expression_of, optional_block_of, declared_of, first_of_path, rest_of_path, syntax_of_expr, syntax_of_block, syntax_of_stat, syntax_of_field, syntax_of_suffix, syntax_of_step, syntax_of_arm, syntax_of_args, syntax_of_body}

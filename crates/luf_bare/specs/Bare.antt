@@ -52,7 +52,8 @@ module _ {K M : syntax.Shape} (f : ShapeMap K M) (encloses : K.Span → Bool →
     chosen_expression (syntax.table span fields) = syntax.table (f.span span) (chosen_fields fields)
     chosen_expression (syntax.unary span sign operand) = syntax.unary (f.span span) (f.leaf sign) (chosen_expression operand)
     chosen_expression (syntax.chain span first rest) = syntax.chain (f.span span) (chosen_expression first) (chosen_operations rest)
-    chosen_expression (syntax.power span base sign exponent) = syntax.power (f.span span) (chosen_expression base) (f.leaf sign) (chosen_expression exponent)
+    chosen_expression (syntax.power span base sign exponent) =
+        syntax.power (f.span span) (chosen_expression base) (f.leaf sign) (chosen_expression exponent)
     chosen_expression (syntax.suffixed span head suffixes) = syntax.suffixed (f.span span) (chosen_expression head) (chosen_suffixes suffixes)
 
     pub chosen_optional_expression : syntax.OptionalExpression K → syntax.OptionalExpression M
@@ -94,17 +95,25 @@ module _ {K M : syntax.Shape} (f : ShapeMap K M) (encloses : K.Span → Bool →
 
     pub chosen_statement : syntax.Statement K → Option (syntax.Statement M)
     chosen_statement (syntax.empty_statement span) = None
-    chosen_statement (syntax.local_statement span names values) = Some (syntax.local_statement (f.span span) (map chosen_declared names) (chosen_expressions values))
-    chosen_statement (syntax.assignment span targets values) = Some (syntax.assignment (f.span span) (chosen_expressions targets) (chosen_expressions values))
+    chosen_statement (syntax.local_statement span names values) =
+        Some (syntax.local_statement (f.span span) (map chosen_declared names) (chosen_expressions values))
+    chosen_statement (syntax.assignment span targets values) =
+        Some (syntax.assignment (f.span span) (chosen_expressions targets) (chosen_expressions values))
     chosen_statement (syntax.call_statement span call) = Some (syntax.call_statement (f.span span) (chosen_expression call))
     chosen_statement (syntax.do_statement span body) = Some (syntax.do_statement (f.span span) (chosen_block body))
-    chosen_statement (syntax.while_statement span test body) = Some (syntax.while_statement (f.span span) (chosen_expression test) (chosen_block body))
-    chosen_statement (syntax.repeat_statement span body test) = Some (syntax.repeat_statement (f.span span) (chosen_block body) (chosen_expression test))
+    chosen_statement (syntax.while_statement span test body) =
+        Some (syntax.while_statement (f.span span) (chosen_expression test) (chosen_block body))
+    chosen_statement (syntax.repeat_statement span body test) =
+        Some (syntax.repeat_statement (f.span span) (chosen_block body) (chosen_expression test))
     chosen_statement (syntax.if_statement span arms last) = Some (syntax.if_statement (f.span span) (chosen_arms arms) (chosen_optional_block last))
-    chosen_statement (syntax.for_statement span name first limit step body) = Some (syntax.for_statement (f.span span) (f.name name) (chosen_expression first) (chosen_expression limit) (chosen_optional_expression step) (chosen_block body))
-    chosen_statement (syntax.for_in_statement span names values body) = Some (syntax.for_in_statement (f.span span) (map f.name names) (chosen_expressions values) (chosen_block body))
-    chosen_statement (syntax.function_statement span name fields method body) = Some (syntax.function_statement (f.span span) (option_map f.name name) (map f.leaf fields) (option_map f.leaf method) (chosen_function_body body))
-    chosen_statement (syntax.local_function_statement span name body) = Some (syntax.local_function_statement (f.span span) (f.name name) (chosen_function_body body))
+    chosen_statement (syntax.for_statement span name first limit step body) =
+        Some (syntax.for_statement (f.span span) (f.name name) (chosen_expression first) (chosen_expression limit) (chosen_optional_expression step) (chosen_block body))
+    chosen_statement (syntax.for_in_statement span names values body) =
+        Some (syntax.for_in_statement (f.span span) (map f.name names) (chosen_expressions values) (chosen_block body))
+    chosen_statement (syntax.function_statement span name fields method body) =
+        Some (syntax.function_statement (f.span span) (option_map f.name name) (map f.leaf fields) (option_map f.leaf method) (chosen_function_body body))
+    chosen_statement (syntax.local_function_statement span name body) =
+        Some (syntax.local_function_statement (f.span span) (f.name name) (chosen_function_body body))
     chosen_statement (syntax.label span name) = Some (syntax.label (f.span span) (f.label name))
     chosen_statement (syntax.goto_statement span name) = Some (syntax.goto_statement (f.span span) (f.label name))
     chosen_statement (syntax.break_statement span) = Some (syntax.break_statement (f.span span))
@@ -129,7 +138,8 @@ module _ {K M : syntax.Shape} (f : ShapeMap K M) (encloses : K.Span → Bool →
     chosen_optional_block (syntax.a_block body) = syntax.a_block (chosen_block body)
 
     pub chosen_function_body : syntax.FunctionBody K → syntax.FunctionBody M
-    chosen_function_body (syntax.function_body span parameters vararg body) = syntax.function_body (f.span span) (map f.name parameters) vararg (chosen_block body)
+    chosen_function_body (syntax.function_body span parameters vararg body) =
+        syntax.function_body (f.span span) (map f.name parameters) vararg (chosen_block body)
 
 -- ---- with parentheses round all arguments: the bare program itself
 

@@ -79,7 +79,8 @@ abbrev mutual
   dropped_suffixes (syntax.more_suffixes first rest) more = dropped_suffix first (dropped_suffixes rest more)
 
   pub dropped_arguments : tokens.Arguments → List ℕ → List ℕ
-  dropped_arguments (syntax.arguments span parentheses items) more = if_dropped (both parentheses (is_lone items)) span.from (dropped_expressions items (if_dropped (both parentheses (is_lone items)) (span.to - 1) more))
+  dropped_arguments (syntax.arguments span parentheses items) more =
+      if_dropped (both parentheses (is_lone items)) span.from (dropped_expressions items (if_dropped (both parentheses (is_lone items)) (span.to - 1) more))
 
   pub dropped_field : tokens.Field → List ℕ → List ℕ
   dropped_field (syntax.item_field value) more = dropped_expression value more
@@ -100,14 +101,16 @@ abbrev mutual
   dropped_statement (syntax.while_statement span test body) more = dropped_expression test (dropped_block body more)
   dropped_statement (syntax.repeat_statement span body test) more = dropped_block body (dropped_expression test more)
   dropped_statement (syntax.if_statement span arms last) more = dropped_arms arms (dropped_else last more)
-  dropped_statement (syntax.for_statement span name first limit step body) more = dropped_expression first (dropped_expression limit (dropped_for_step step (dropped_block body more)))
+  dropped_statement (syntax.for_statement span name first limit step body) more =
+      dropped_expression first (dropped_expression limit (dropped_for_step step (dropped_block body more)))
   dropped_statement (syntax.for_in_statement span names values body) more = dropped_expressions values (dropped_block body more)
   dropped_statement (syntax.function_statement span name fields method body) more = dropped_body body more
   dropped_statement (syntax.local_function_statement span name body) more = dropped_body body more
   dropped_statement (syntax.label span name) more = more
   dropped_statement (syntax.goto_statement span name) more = more
   dropped_statement (syntax.break_statement span) more = more
-  dropped_statement (syntax.return_statement span values) more = dropped_expressions values (between (end_of_expressions (span.from + 1) values) span.to more)
+  dropped_statement (syntax.return_statement span values) more =
+      dropped_expressions values (between (end_of_expressions (span.from + 1) values) span.to more)
 
   pub dropped_statements : tokens.Statements → List ℕ → List ℕ
   dropped_statements syntax.no_statements more = more

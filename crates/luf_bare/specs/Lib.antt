@@ -4,4 +4,5 @@ pub mod Dropped
 pub mod Significant
 pub mod Writing
 pub mod Texts
+pub mod Rank
 pub mod ReadBack

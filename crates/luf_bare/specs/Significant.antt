@@ -1,6 +1,5 @@
 -- The significant tokens of a chunk: all but the dropped ones.
-use Rattle.std.specs.Prelude.{ℕ, zero, suc, ◌+◌, Bool, false, ◌||◌, cond, List, [], ◌∷◌}
-use Rattle.std.proofs.Common.{eqb}
+use Rattle.std.specs.Prelude.{ℕ, zero, suc, ◌+◌, Bool, false, ◌||◌, cond, eqb, List, [], ◌∷◌}
 use Rattle.luf_lex.specs.declared.token.Tok.{Tok}
 use Rattle.luf_lex.specs.declared.token.Tok.TheVariants as tok
 use Rattle.luf_tree.specs.TokenSyntax as tokens

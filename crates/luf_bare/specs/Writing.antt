@@ -92,7 +92,8 @@ module _ {S X : Type 0} (kind : X → Tok) (put : Tok → X) (add : Tok → List
     written_expression (syntax.variable span name) = name ∷ []
     written_expression (syntax.parenthesised span inner) = put (Sign sign.LeftParen) ∷ (written_expression inner ++ (put (Sign sign.RightParen) ∷ []))
     written_expression (syntax.function span body) = put (Word word.Function) ∷ written_body body
-    written_expression (syntax.table span fields) = put (Sign sign.LeftBrace) ∷ (written_fields (trails span) fields ++ (put (Sign sign.RightBrace) ∷ []))
+    written_expression (syntax.table span fields) =
+        put (Sign sign.LeftBrace) ∷ (written_fields (trails span) fields ++ (put (Sign sign.RightBrace) ∷ []))
     written_expression (syntax.unary span sign operand) = sign ∷ written_expression operand
     written_expression (syntax.chain span first rest) = written_expression first ++ written_operations rest
     written_expression (syntax.power span base sign exponent) = written_expression base ++ (sign ∷ written_expression exponent)
@@ -133,7 +134,8 @@ module _ {S X : Type 0} (kind : X → Tok) (put : Tok → X) (add : Tok → List
     pub written_field : syntax.Field (Worded S X) → List X
     written_field (syntax.item_field value) = written_expression value
     written_field (syntax.named_field name value) = name ∷ put (Sign sign.Assign) ∷ written_expression value
-    written_field (syntax.keyed_field key value) = put (Sign sign.LeftBracket) ∷ (written_expression key ++ (put (Sign sign.RightBracket) ∷ put (Sign sign.Assign) ∷ written_expression value))
+    written_field (syntax.keyed_field key value) =
+        put (Sign sign.LeftBracket) ∷ (written_expression key ++ (put (Sign sign.RightBracket) ∷ put (Sign sign.Assign) ∷ written_expression value))
 
     pub written_more_fields : Bool → syntax.Fields (Worded S X) → List X
     written_more_fields trailing syntax.no_fields = separated trailing
@@ -146,16 +148,23 @@ module _ {S X : Type 0} (kind : X → Tok) (put : Tok → X) (add : Tok → List
     pub written_statement : syntax.Statement (Worded S X) → List X
     written_statement (syntax.empty_statement span) = put (Sign sign.Semicolon) ∷ []
     written_statement (syntax.local_statement span names syntax.no_expressions) = put (Word word.Local) ∷ written_declared names
-    written_statement (syntax.local_statement span names (syntax.more_expressions e rest)) = put (Word word.Local) ∷ (written_declared names ++ (put (Sign sign.Assign) ∷ (written_expression e ++ written_more_expressions rest)))
+    written_statement (syntax.local_statement span names (syntax.more_expressions e rest)) =
+        put (Word word.Local) ∷ (written_declared names ++ (put (Sign sign.Assign) ∷ (written_expression e ++ written_more_expressions rest)))
     written_statement (syntax.assignment span targets values) = written_expressions targets ++ (put (Sign sign.Assign) ∷ written_expressions values)
     written_statement (syntax.call_statement span call) = written_expression call
     written_statement (syntax.do_statement span body) = put (Word word.Do) ∷ (written_block body ++ (put (Word word.End) ∷ []))
-    written_statement (syntax.while_statement span test body) = put (Word word.While) ∷ (written_expression test ++ (put (Word word.Do) ∷ (written_block body ++ (put (Word word.End) ∷ []))))
-    written_statement (syntax.repeat_statement span body test) = put (Word word.Repeat) ∷ (written_block body ++ (put (Word word.Until) ∷ written_expression test))
-    written_statement (syntax.if_statement span arms last) = put (Word word.If) ∷ (written_arms arms ++ (written_else last ++ (put (Word word.End) ∷ [])))
-    written_statement (syntax.for_statement span name first limit step body) = put (Word word.For) ∷ name ∷ put (Sign sign.Assign) ∷ (written_expression first ++ (put (Sign sign.Comma) ∷ (written_expression limit ++ (written_for_step step ++ (put (Word word.Do) ∷ (written_block body ++ (put (Word word.End) ∷ [])))))))
-    written_statement (syntax.for_in_statement span names values body) = put (Word word.For) ∷ (written_names names ++ (put (Word word.In) ∷ (written_expressions values ++ (put (Word word.Do) ∷ (written_block body ++ (put (Word word.End) ∷ []))))))
-    written_statement (syntax.function_statement span name fields method body) = put (Word word.Function) ∷ (written_path name fields ++ (written_method method ++ written_body body))
+    written_statement (syntax.while_statement span test body) =
+        put (Word word.While) ∷ (written_expression test ++ (put (Word word.Do) ∷ (written_block body ++ (put (Word word.End) ∷ []))))
+    written_statement (syntax.repeat_statement span body test) =
+        put (Word word.Repeat) ∷ (written_block body ++ (put (Word word.Until) ∷ written_expression test))
+    written_statement (syntax.if_statement span arms last) =
+        put (Word word.If) ∷ (written_arms arms ++ (written_else last ++ (put (Word word.End) ∷ [])))
+    written_statement (syntax.for_statement span name first limit step body) =
+        put (Word word.For) ∷ name ∷ put (Sign sign.Assign) ∷ (written_expression first ++ (put (Sign sign.Comma) ∷ (written_expression limit ++ (written_for_step step ++ (put (Word word.Do) ∷ (written_block body ++ (put (Word word.End) ∷ [])))))))
+    written_statement (syntax.for_in_statement span names values body) =
+        put (Word word.For) ∷ (written_names names ++ (put (Word word.In) ∷ (written_expressions values ++ (put (Word word.Do) ∷ (written_block body ++ (put (Word word.End) ∷ []))))))
+    written_statement (syntax.function_statement span name fields method body) =
+        put (Word word.Function) ∷ (written_path name fields ++ (written_method method ++ written_body body))
     written_statement (syntax.local_function_statement span name body) = put (Word word.Local) ∷ put (Word word.Function) ∷ name ∷ written_body body
     written_statement (syntax.label span name) = put (Sign sign.DoubleColon) ∷ name ∷ put (Sign sign.DoubleColon) ∷ []
     written_statement (syntax.goto_statement span name) = put (Word word.Goto) ∷ name ∷ []
@@ -186,4 +195,5 @@ module _ {S X : Type 0} (kind : X → Tok) (put : Tok → X) (add : Tok → List
     written_else (syntax.a_block body) = put (Word word.Else) ∷ written_block body
 
     pub written_body : syntax.FunctionBody (Worded S X) → List X
-    written_body (syntax.function_body span parameters vararg body) = put (Sign sign.LeftParen) ∷ (written_parameters parameters vararg ++ (put (Sign sign.RightParen) ∷ (written_block body ++ (put (Word word.End) ∷ []))))
+    written_body (syntax.function_body span parameters vararg body) =
+        put (Sign sign.LeftParen) ∷ (written_parameters parameters vararg ++ (put (Sign sign.RightParen) ∷ (written_block body ++ (put (Word word.End) ∷ []))))

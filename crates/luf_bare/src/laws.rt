@@ -1,4 +1,5 @@
 // Laws of what is written of a bare program.
+ghost use Rattle.luf_bare.specs.Rank.{RanksCount, RanksInOrder};
 ghost use Rattle.luf_bare.specs.ReadBack.{OneDepth, SignificantAreWritten, TextIsRead, WrittenIsRead};
 
 /// Chunks of one bare program are nested equally deep.
@@ -19,4 +20,14 @@ pub fn significant_are_written()
 /// What is written of a chunk, with any choices, is read as the same program, with the same significant tokens.
 pub fn written_is_read()
     ensures { WrittenIsRead }
+{}
+
+/// A significant token stands before a place exactly where its rank is less.
+pub fn ranks_in_order()
+    ensures { RanksInOrder }
+{}
+
+/// The rank of a significant token is its number among the significant tokens.
+pub fn ranks_count()
+    ensures { RanksCount }
 {}

@@ -3,4 +3,6 @@
 
 mod laws;
 
-pub use laws::{one_depth, significant_are_written, text_is_read, written_is_read};
+pub use laws::{
+    one_depth, ranks_count, ranks_in_order, significant_are_written, text_is_read, written_is_read,
+};

@@ -10,4 +10,4 @@ pub mod EntryLevels
 pub mod EntryExamples
 pub mod TokenLaws
 pub mod Locality
-pub mod Fronts
+pub mod Alone

@@ -1,5 +1,5 @@
 // Laws of trees and of the grammar.
-ghost use Rattle.std.specs.Prelude.{◌≡◌, ℕ, ◌++◌, Bool, List};
+ghost use Rattle.std.specs.Prelude.{◌≡◌, ℕ, ◌++◌, Bool, List, take};
 ghost use Rattle.luf_lex.specs.declared.token.Tok.{Tok};
 ghost use Rattle.luf_tree.specs.declared.tree.Block.{Block};
 ghost use Rattle.luf_tree.specs.declared.tree.Chunk.{Chunk};
@@ -23,6 +23,16 @@ pub fn expression_is_local()
 /// A block depends on its own tokens alone, and on whether a `(` stands behind it.
 pub fn block_is_local()
     ensures { (toks : List Tok) (i j : ℕ) (b : Block) → IsBlock toks i j b → IsLocal toks i j (λ other. IsBlock other i j b) }
+{}
+
+/// An expression stands in its tokens alone: where they are cut off at its end.
+pub fn expression_alone()
+    ensures { (toks : List Tok) (n i j : ℕ) (e : Expr) → IsExpr toks n i j e → IsExpr (take j toks) n i j e }
+{}
+
+/// A block stands in its tokens alone: where they are cut off at its end.
+pub fn block_alone()
+    ensures { (toks : List Tok) (i j : ℕ) (b : Block) → IsBlock toks i j b → IsBlock (take j toks) i j b }
 {}
 
 /// The front of a suffixed expression is an expression by itself.

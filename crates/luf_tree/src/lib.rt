@@ -5,7 +5,10 @@ mod laws;
 mod read;
 mod tree;
 
-pub use laws::{block_is_local, depth_is_greatest, expression_is_local, front_alone};
+pub use laws::{
+    block_alone, block_is_local, depth_is_greatest, expression_alone, expression_is_local,
+    front_alone,
+};
 pub use read::{depth, first_token, last_token};
 pub use tree::{
     Args, Arm, Block, Chunk, Declared, Expr, ExprKind, Field, FuncBody, Stat, StatKind, Step,

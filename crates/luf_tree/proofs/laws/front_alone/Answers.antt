@@ -1,4 +1,4 @@
-use Rattle.luf_tree.proofs.Fronts as law
+use Rattle.luf_tree.proofs.Alone as law
 use Rattle.luf_tree.proofs.laws.front_alone.Goals as goal
 
 pub returns : goal.returns

@@ -1,4 +1,4 @@
--- The front of a suffixed expression is an expression by itself.
+-- Parts by themselves: in the tokens that are cut off at their end.
 use Rattle.std.proofs.Common.{◌≡◌, ℕ, zero, suc, ◌≤◌, ◌<◌, Bool, true, false, List, [], ◌∷◌, ◌++◌, take, slice_get, refl, arith}
 use Rattle.std.proofs.lemmas.List.{length-take}
 use Rattle.std.proofs.lemmas.Option.{slice_get_within}
@@ -7,7 +7,7 @@ use Rattle.luf_tree.specs.declared.tree.Expr.{Expr}
 use Rattle.luf_tree.specs.declared.tree.Suffix.{Suffix}
 use Rattle.luf_tree.specs.Grammar as g
 use Rattle.luf_tree.specs.Grammar.{IsClosed, IsHead, IsPrefix, IsExpr, AreSuffixes}
-use Rattle.luf_tree.specs.Agree.{AgreeBefore, Front, front_of}
+use Rattle.luf_tree.specs.Agree.{AgreeBefore, IsLocal, Front, front_of}
 use Rattle.luf_tree.proofs.Locality.{local_prefix, local_suffixes}
 
 same_before : (toks : List Tok) (j k : ℕ) → k < j → slice_get (take j toks) k ≡ slice_get toks k
@@ -23,9 +23,13 @@ cut_agrees toks j = record { same = λ k less. same_before toks j k less }
 cut_closed : (toks : List Tok) (j : ℕ) → IsClosed (take j toks) j
 cut_closed toks j there = omega (arith, slice_get_within (take j toks) j _ there, length-take j toks)
 
+-- what is local is derived in the tokens that are cut off at its end
+pub cut_off : {toks : List Tok} {i j : ℕ} {Derived : List Tok → Type 0} → IsLocal toks i j Derived → Derived (take j toks)
+cut_off {toks} {j} part = part.at (take j toks) (cut_agrees toks j) (λ _. cut_closed toks j)
+
 -- a prefix expression is an expression by itself, where the tokens are cut off at its end
 pub prefix_alone : {toks : List Tok} {i j : ℕ} {e : Expr} → IsPrefix toks i j e → IsExpr (take j toks) 1 i j e
-prefix_alone {toks} {j} d = g.operand_expr (g.simple_operand (g.prefix_simple ((local_prefix d).at (take j toks) (cut_agrees toks j) (λ _. cut_closed toks j)) (cut_closed toks j)))
+prefix_alone {toks} {j} d = g.operand_expr (g.simple_operand (g.prefix_simple (cut_off (local_prefix d)) (cut_closed toks j)))
 
 head_prefix : {toks : List Tok} {i j : ℕ} {head : Expr} → IsHead toks i j head → IsPrefix toks i j head
 head_prefix (g.name_head t) = g.variable_prefix (g.name_variable t)
