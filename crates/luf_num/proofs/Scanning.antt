@@ -32,7 +32,7 @@ stops_at_prefix test (x ∷ xs) = ⊎_elim
 -- the cut at `prefix_len`
 pub splits_at_prefix : (test : ℕ → Bool) (s : List ℕ) → SplitsWhile test s (take (prefix_len test s) s) (drop (prefix_len test s) s)
 splits_at_prefix test s = record {
-  joined = sym (take-append-drop (prefix_len test s) s);
+  spelled = sym (take-append-drop (prefix_len test s) s);
   passes = passes_to_prefix test s;
   stops = stops_at_prefix test s;
 }
@@ -132,7 +132,7 @@ float_from_cut digit mark s whole point fraction exponent cut some not_integer s
       point = point;
       fraction = fraction;
       exponent = exponent;
-      spelled = cut.first.joined ∙ ap (λ t. whole ++ t) (second.1 ∙ ap (λ t. point ++ t) cut.third.joined) ∙ simp append_assoc;
+      spelled = cut.first.spelled ∙ ap (λ t. whole ++ t) (second.1 ∙ ap (λ t. point ++ t) cut.third.spelled) ∙ simp append_assoc;
       pointed = second.0;
       digits = record { digits = list_all_both digit whole fraction cut.first.passes cut.third.passes; some = some };
       scaled = scaled;
@@ -172,12 +172,12 @@ module _ (digit mark : ℕ → Bool) (s whole point fraction exponent : List ℕ
       let spelled : s ≡ (form.whole ++ form.fraction) ++ form.exponent =
       form.spelled ∙ ap (λ p. form.whole ++ p ++ form.fraction ++ form.exponent) none ∙ ap (λ t. t ++ form.fraction ++ form.exponent) (append-nil form.whole) in
       let first = one_split digit whole cut.after_whole (form.whole ++ form.fraction) form.exponent
-      cut.first.passes cut.first.stops form.digits.digits exponent_stops (sym cut.first.joined ∙ spelled) in
+      cut.first.passes cut.first.stops form.digits.digits exponent_stops (sym cut.first.spelled ∙ spelled) in
       let no_dot : NoneAtFront is_point cut.after_whole =
       subst (NoneAtFront is_point) (sym first.1) (stops_at_exponent mark is_point mark_no_point form.exponent form.scaled) in
       let second = no_point_cut cut.after_whole point cut.after_point cut.second no_dot in
       let third = one_split digit fraction exponent [] form.exponent cut.third.passes cut.third.stops refl exponent_stops
-      (sym cut.third.joined ∙ sym second.1 ∙ first.1) in
+      (sym cut.third.spelled ∙ sym second.1 ∙ first.1) in
       record {
         some = rw (first.0, third.0) (rw append-nil form.digits.some);
         not_integer = rw (second.0, third.1) (subst (λ p. 0 < length (p ++ form.exponent)) none form.not_integer);
@@ -191,10 +191,10 @@ module _ (digit mark : ℕ → Bool) (s whole point fraction exponent : List ℕ
       ∙ append_assoc form.whole (46 ∷ []) (form.fraction ++ form.exponent) in
       let digits = list_all_parts digit form.whole form.fraction form.digits.digits in
       let first = one_split digit whole cut.after_whole form.whole (46 ∷ (form.fraction ++ form.exponent))
-      cut.first.passes cut.first.stops digits.0 no_point (sym cut.first.joined ∙ spelled) in
+      cut.first.passes cut.first.stops digits.0 no_point (sym cut.first.spelled ∙ spelled) in
       let second = point_cut cut.after_whole point cut.after_point (form.fraction ++ form.exponent) cut.second first.1 in
       let third = one_split digit fraction exponent form.fraction form.exponent cut.third.passes cut.third.stops digits.1 exponent_stops
-      (sym cut.third.joined ∙ second.1) in
+      (sym cut.third.spelled ∙ second.1) in
       record {
         some = rw (first.0, third.0) form.digits.some;
         not_integer = rw (second.0, third.1) (subst (λ p. 0 < length (p ++ form.exponent)) dot form.not_integer);

@@ -3,7 +3,7 @@ use Rattle.std.proofs.Common.{◌≡◌, ◌≢◌, ◌↔◌, ℕ, zero, suc, �
 use Rattle.std.specs.Prelude.{◌==◌}
 use Rattle.std.specs.List.{prefix_len}
 use Rattle.std.proofs.lemmas.Bool.{and_parts, eqb-true, eq-eqb, cases_lt, false≢true}
-use Rattle.std.proofs.lemmas.List.{take-append-drop, take_at, drop_at, drop_all, drop_more, get_or-drop, get_or_at, get_or_past, nil_from_length, length-replicate, length-take-le}
+use Rattle.std.proofs.lemmas.List.{take-append-drop, take_at, drop_at, drop_more, get_or-drop, get_or_at, get_or_past, nil_from_length, length-replicate, length-take-le}
 use Rattle.memchr.specs.Find.{Nowhere, Passes, is_byte}
 use Rattle.luf_str.specs.Spelling.{opening, closing, IsLongSpelling}
 use Rattle.luf_str.proofs.Leading.{prefix_len-whole}
@@ -45,14 +45,6 @@ begins_at p [] (suc k) h = absurd (false≢true h)
 begins_at p (b ∷ text) zero h = (omega arith, h)
 begins_at p (b ∷ text) (suc k) h = let rest = begins_at p text k h in (omega arith, rest.1)
 
-pub begins_from : (p : ℕ → Bool) (text : List ℕ) (k : ℕ) → k < length text → begins p (drop k text) ≡ p (get_or text k 0)
-begins_from p [] k h = absurd (omega arith)
-begins_from p (b ∷ text) zero h = refl
-begins_from p (b ∷ text) (suc k) h = begins_from p text k (omega arith)
-
-pub begins_past : (p : ℕ → Bool) (text : List ℕ) (k : ℕ) → length text ≤ k → begins p (drop k text) ≡ false
-begins_past p text k h = ap (begins p) (drop_all k text h)
-
 -- a text that opens one is the opening bracket and the rest
 pub bracket_cut : (text : List ℕ) (level : ℕ) → opens_long text ≡ true → level ≡ level_of text → text ≡ opening level ++ drop (level + 2) text
 bracket_cut [] level h is = absurd (false≢true h)
@@ -63,9 +55,6 @@ bracket_cut (b ∷ rest) level h is =
     let e : level + 2 ≡ suc (level + 1) = omega arith in
     let behind : drop (level + 2) (b ∷ rest) ≡ drop (level + 1) rest = ap (λ k. drop k (b ∷ rest)) e in
     ap (λ x. x ∷ rest) first ∙ ap (λ t. 91 ∷ t) (bracket_front rest level 90 is last) ∙ ap (λ t. opening level ++ t) (sym behind)
-
-pub bracket_fits : (text : List ℕ) (level : ℕ) → opens_long text ≡ true → level ≡ level_of text → level + 2 ≤ length text
-bracket_fits text level h is = omega (arith, ap length (bracket_cut text level h is), length-append (opening level) (drop (level + 2) text), opening_length level)
 
 pub opening_opens : (n : ℕ) (inner : List ℕ) → opens_long (opening n ++ inner) ≡ true
 opening_opens n inner =

@@ -6,7 +6,7 @@ use Rattle.luf_byte.specs.Front.{NoneAtFront}
 
 -- s is cut after all the bytes from the front on that pass the test
 pub record SplitsWhile (test : ℕ → Bool) (s front back : List ℕ) : Type 0 where
-  pub joined : s ≡ front ++ back
+  pub spelled : s ≡ front ++ back
   pub passes : IsTrue (list_all test front)
   pub stops : NoneAtFront test back
 

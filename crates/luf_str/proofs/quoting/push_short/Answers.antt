@@ -6,6 +6,10 @@ use Rattle.luf_str.proofs.Requoting.{quote_byte_is_quote}
 use Rattle.luf_str.proofs.UnitReading.{cut_starts, cut_goes_on, cut_ends, run_cut}
 use Rattle.luf_str.proofs.quoting.push_short.Goals as goal
 
+-- the byte that was pushed is this one
+pushed_as : (old new : List ℕ) (b q : ℕ) → new ≡ old ++ b ∷ [] → b ≡ q → new ≡ old ++ q ∷ []
+pushed_as old new b q e is = e ∙ ap (λ x. old ++ x ∷ []) is
+
 pub head-requires : goal.head-requires
 head-requires c =
     let step = cut_goes_on _ _ c.args.spelling.now c.loop-at.at c.unit_length-length.result _ c.loop-at.invariant.1.1 c.loop-at-test.true (c.unit_length-length.ensures ∙ ap unit_length c.tail-rest.ensures) in
@@ -18,7 +22,7 @@ loop-at-init c =
     let n : ℕ = c.in_ok-at.field-0 in
     let run : List ℕ = take n c.tail.result.now in
     let start = run_cut _ q spelling 1 n (q ∷ []) c.tail.result.now (quote_byte_is_quote c.args.quotes) (cut_starts q spelling c.requires) c.tail.ensures c.in_ok-at.ensures.count in
-    let opened : c.push.new.self.items ≡ c.args.into.now.items ++ q ∷ [] = c.in_ok-push.ensures.items ∙ ap (λ b. c.args.into.now.items ++ b ∷ []) c.byte.ensures in
+    let opened = pushed_as _ _ _ q c.in_ok-push.ensures.items c.byte.ensures in
     (start.0, (q ∷ run, start.1, appended _ (q ∷ []) _ _ run opened c.in_ok-at.ensures.ok))
 
 pub overflow_add-at-in-loop-at : goal.overflow_add-at-in-loop-at
@@ -59,5 +63,5 @@ pub returns-clause-ok : goal.returns-clause-ok
 returns-clause-ok c =
     let state = c.loop-at.invariant.1 in
     let close : List ℕ = quote_byte c.args.quotes ∷ [] in
-    let pushed : c.push-2.new.self.items ≡ c.loop-at.into.items ++ close = c.in_ok-push-2.ensures.items ∙ ap (λ b. c.loop-at.into.items ++ b ∷ []) c.byte-2.ensures in
+    let pushed = pushed_as _ _ _ _ c.in_ok-push-2.ensures.items c.byte-2.ensures in
     (state.0 ++ close, cut_ends _ _ c.args.spelling.now c.loop-at.at state.0 state.1 c.loop-at-test.false, appended _ state.0 _ _ close state.2 pushed)
