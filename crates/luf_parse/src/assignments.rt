@@ -11,6 +11,7 @@ ghost use Rattle.luf_parse.specs.Parts.{ReadAssign, ReadExprStat, ReadMoreTarget
 
 use crate::ParseErr;
 use crate::expressions::exprs;
+use crate::growing::Growing;
 use crate::prefixes::{Shape, prefix};
 use crate::tokens::{eat, expect, refusal};
 use luf_lex::{Cut, Sign, Tok};
@@ -76,13 +77,13 @@ fn targets(
     ensures only { IfOk result (Alone (ReadMoreTargets (toks_of cut.now) left at first)) }
     ensures none { IfErr result (Refutes (ReadMoreTargets (toks_of cut.now) left at first)) }
 {
-    let mut found = Items::new(alloc);
+    let mut found = Growing::new(alloc);
     let mut one = first;
     loop {
         let to = one.to;
         found.push(one)?;
         let Some(next) = eat(cut, to, Tok::Sign(Sign::Comma)) else {
-            return Ok((found, to));
+            return Ok((found.exact(), to));
         };
         at = next;
         one = variable(alloc, cut, left, at)?;

@@ -14,12 +14,13 @@ ghost use Rattle.luf_parse.specs.Parts.{ReadBlock, ReadEnded, ReadFuncBody, Read
 
 use crate::ParseErr;
 use crate::expressions::exprs;
+use crate::growing::Growing;
 use crate::names::params;
 use crate::statements::stat;
 use crate::tokens::{eat, enter, expect};
 use luf_lex::{Cut, Sign, Tok, Word};
 use luf_tree::{Block, FuncBody, Stat, StatKind};
-use sqlite_items::Items;
+use sqlite_items::{Boxed, Items};
 use std::alloc::Global;
 
 /// A function from the `(` of its parameters to its `end`.
@@ -55,7 +56,7 @@ pub fn block(alloc: Global, cut: &Cut, left: u32, at: u32) -> Result<Block, Pars
     ensures only { IfOk result (Alone (ReadBlock (toks_of cut.now) left at)) }
     ensures none { IfErr result (Refutes (ReadBlock (toks_of cut.now) left at)) }
 {
-    let mut stats = Items::new(alloc);
+    let mut stats = Growing::new(alloc);
     let mut to = at;
     while !ends_block(cut, to) {
         let one = stat(alloc, cut, left, to)?;
@@ -69,13 +70,13 @@ pub fn block(alloc: Global, cut: &Cut, left: u32, at: u32) -> Result<Block, Pars
         return Ok(Block {
             from: at,
             to: end,
-            stats,
+            stats: stats.exact(),
         });
     }
     Ok(Block {
         from: at,
         to,
-        stats,
+        stats: stats.exact(),
     })
 }
 
@@ -147,7 +148,7 @@ pub fn ended_block(
     left: u32,
     opener: u32,
     from: u32,
-) -> Result<(Block, u32), ParseErr>
+) -> Result<(Boxed<Block>, u32), ParseErr>
     requires left { left ≤ 200 }
     requires within { from ≤ length (toks_of cut.now) }
     ensures ok { IfOk result (λ r. Found (toks_of cut.now) (from + 1) r.1 left (block_levels r.0 + 1) (IsBlock (toks_of cut.now) from (out-Block r.0).to r.0 × IsToken (toks_of cut.now) (out-Block r.0).to (Tok.Word word.End) r.1)) }
@@ -158,5 +159,5 @@ pub fn ended_block(
     let inner = enter(cut, left, opener)?;
     let body = block(alloc, cut, inner, from)?;
     let to = expect(cut, body.to, Tok::Word(Word::End))?;
-    Ok((body, to))
+    Ok((Boxed::new(alloc, body)?, to))
 }

@@ -13,6 +13,7 @@ ghost use Rattle.luf_parse.specs.Parts.{ReadChain, ReadExpr, ReadExprs, ReadFunc
 
 use crate::ParseErr;
 use crate::blocks::func_body;
+use crate::growing::Growing;
 use crate::prefixes::prefix;
 use crate::tables::table_expr;
 use crate::tokens::{eat, enter, is_unary, level_at, refusal, take};
@@ -64,7 +65,7 @@ fn chain(
     ensures only { IfOk result (Alone (ReadChain (toks_of cut.now) level left at first)) }
     ensures none { IfErr result (Refutes (ReadChain (toks_of cut.now) level left at first)) }
 {
-    let mut rest = Items::new(alloc);
+    let mut rest = Growing::new(alloc);
     let mut sign = first.to;
     loop {
         let Some((_, next)) = take(cut, sign) else {
@@ -79,7 +80,7 @@ fn chain(
                 to,
                 what: ExprKind::Chain {
                     first: Boxed::new(alloc, first)?,
-                    rest,
+                    rest: rest.exact(),
                 },
             });
         }
@@ -213,14 +214,14 @@ pub fn exprs(
     ensures only { IfOk result (Alone (ReadExprs (toks_of cut.now) left at)) }
     ensures none { IfErr result (Refutes (ReadExprs (toks_of cut.now) left at)) }
 {
-    let mut found = Items::new(alloc);
+    let mut found = Growing::new(alloc);
     loop {
         let one = expr(alloc, cut, left, at, 1)?;
         let to = one.to;
         found.push(one)?;
         match eat(cut, to, Tok::Sign(Sign::Comma)) {
             Some(next) => at = next,
-            None => return Ok((found, to)),
+            None => return Ok((found.exact(), to)),
         }
     }
 }

@@ -7,6 +7,7 @@ mod assignments;
 mod blocks;
 mod error;
 mod expressions;
+mod growing;
 mod laws;
 mod loops;
 mod names;

@@ -19,6 +19,7 @@ use crate::tables::assigned;
 use crate::tokens::{eat, expect};
 use luf_lex::{Cut, Sign, Tok, Word};
 use luf_tree::{Expr, Stat, StatKind};
+use sqlite_items::Boxed;
 use std::alloc::Global;
 
 /// A `for` statement behind its `for`.
@@ -43,7 +44,7 @@ pub fn for_stat(alloc: Global, cut: &Cut, left: u32, at: u32, next: u32) -> Resu
         from: at,
         to,
         what: StatKind::ForIn {
-            names,
+            names: Boxed::new(alloc, names)?,
             values,
             body,
         },
@@ -79,8 +80,8 @@ fn count_stat(
         to,
         what: StatKind::For {
             name,
-            first,
-            limit,
+            first: Boxed::new(alloc, first)?,
+            limit: Boxed::new(alloc, limit)?,
             step,
             body,
         },
@@ -89,7 +90,12 @@ fn count_stat(
 
 /// `[',' exp]`, and the place after it.
 #[cycle(parse)]
-fn for_step(alloc: Global, cut: &Cut, left: u32, at: u32) -> Result<(Option<Expr>, u32), ParseErr>
+fn for_step(
+    alloc: Global,
+    cut: &Cut,
+    left: u32,
+    at: u32,
+) -> Result<(Option<Boxed<Expr>>, u32), ParseErr>
     requires left { left ≤ 200 }
     requires within { at ≤ length (toks_of cut.now) }
     ensures ok { IfOk result (λ r. Found (toks_of cut.now) at r.1 left (if_there (option_map expr_levels r.0)) (IsForStep (toks_of cut.now) at r.1 r.0)) }
@@ -102,5 +108,5 @@ fn for_step(alloc: Global, cut: &Cut, left: u32, at: u32) -> Result<(Option<Expr
     };
     let step = expr(alloc, cut, left, from, 1)?;
     let to = step.to;
-    Ok((Some(step), to))
+    Ok((Some(Boxed::new(alloc, step)?), to))
 }

@@ -7,6 +7,7 @@ ghost use Rattle.luf_parse.specs.Exact.{Alone, Refutes};
 ghost use Rattle.luf_parse.specs.Parts.{ReadAttribute, ReadDeclared, ReadMethod, ReadNames, ReadParams, ReadPath};
 
 use crate::ParseErr;
+use crate::growing::Growing;
 use crate::tokens::{eat, expect};
 use luf_lex::{Cut, Sign, Tok};
 use luf_tree::Declared;
@@ -20,13 +21,13 @@ pub fn names(alloc: Global, cut: &Cut, mut at: u32) -> Result<(Items<u32>, u32),
     ensures only { IfOk result (Alone (ReadNames (toks_of cut.now) at)) }
     ensures none { IfErr result (Refutes (ReadNames (toks_of cut.now) at)) }
 {
-    let mut found = Items::new(alloc);
+    let mut found = Growing::new(alloc);
     loop {
         let to = expect(cut, at, Tok::Name)?;
         found.push(at)?;
         match eat(cut, to, Tok::Sign(Sign::Comma)) {
             Some(next) => at = next,
-            None => return Ok((found, to)),
+            None => return Ok((found.exact(), to)),
         }
     }
 }
@@ -38,13 +39,13 @@ pub fn path(alloc: Global, cut: &Cut, mut at: u32) -> Result<(Items<u32>, u32), 
     ensures only { IfOk result (Alone (ReadPath (toks_of cut.now) at)) }
     ensures none { IfErr result (Refutes (ReadPath (toks_of cut.now) at)) }
 {
-    let mut found = Items::new(alloc);
+    let mut found = Growing::new(alloc);
     loop {
         let to = expect(cut, at, Tok::Name)?;
         found.push(at)?;
         match eat(cut, to, Tok::Sign(Sign::Dot)) {
             Some(next) => at = next,
-            None => return Ok((found, to)),
+            None => return Ok((found.exact(), to)),
         }
     }
 }
@@ -74,21 +75,21 @@ pub fn params(alloc: Global, cut: &Cut, mut at: u32) -> Result<(Items<u32>, bool
     ensures only { IfOk result (Alone (ReadParams (toks_of cut.now) at)) }
     ensures none { IfErr result (Refutes (ReadParams (toks_of cut.now) at)) }
 {
-    let mut found = Items::new(alloc);
+    let mut found = Growing::new(alloc);
     if let Some(to) = eat(cut, at, Tok::Sign(Sign::Dots)) {
-        return Ok((found, true, to));
+        return Ok((found.exact(), true, to));
     }
     if !cut.is_at(at, Tok::Name) {
-        return Ok((found, false, at));
+        return Ok((found.exact(), false, at));
     }
     loop {
         let to = expect(cut, at, Tok::Name)?;
         found.push(at)?;
         let Some(next) = eat(cut, to, Tok::Sign(Sign::Comma)) else {
-            return Ok((found, false, to));
+            return Ok((found.exact(), false, to));
         };
         if let Some(end) = eat(cut, next, Tok::Sign(Sign::Dots)) {
-            return Ok((found, true, end));
+            return Ok((found.exact(), true, end));
         }
         at = next;
     }
@@ -119,7 +120,7 @@ pub fn declared(alloc: Global, cut: &Cut, mut at: u32) -> Result<(Items<Declared
     ensures only { IfOk result (Alone (ReadDeclared (toks_of cut.now) at)) }
     ensures none { IfErr result (Refutes (ReadDeclared (toks_of cut.now) at)) }
 {
-    let mut found = Items::new(alloc);
+    let mut found = Growing::new(alloc);
     loop {
         let name = at;
         let after = expect(cut, name, Tok::Name)?;
@@ -127,7 +128,7 @@ pub fn declared(alloc: Global, cut: &Cut, mut at: u32) -> Result<(Items<Declared
         found.push(Declared { name, attribute })?;
         match eat(cut, to, Tok::Sign(Sign::Comma)) {
             Some(next) => at = next,
-            None => return Ok((found, to)),
+            None => return Ok((found.exact(), to)),
         }
     }
 }

@@ -14,6 +14,7 @@ ghost use Rattle.luf_parse.specs.Parts.{ReadArgs, ReadHead, ReadListArgs, ReadLo
 
 use crate::ParseErr;
 use crate::expressions::{expr, exprs};
+use crate::growing::Growing;
 use crate::tables::table;
 use crate::tokens::{begins_suffix, eat, enter, expect, take};
 use luf_lex::{Cut, Sign, Tok};
@@ -134,12 +135,12 @@ fn suffixes(
     ensures only { IfOk result (Alone (ReadSuffixes (toks_of cut.now) left at)) }
     ensures none { IfErr result (Refutes (ReadSuffixes (toks_of cut.now) left at)) }
 {
-    let mut found = Items::new(alloc);
+    let mut found = Growing::new(alloc);
     loop {
         let (one, calls, to) = suffix(alloc, cut, left, at)?;
         found.push(one)?;
         if !begins_suffix(cut, to) {
-            return Ok((found, calls, to));
+            return Ok((found.exact(), calls, to));
         }
         at = to;
     }
@@ -162,7 +163,7 @@ fn suffix(alloc: Global, cut: &Cut, left: u32, at: u32) -> Result<(Suffix, bool,
         let inner = enter(cut, left, at)?;
         let key = expr(alloc, cut, inner, inside, 1)?;
         let to = expect(cut, key.to, Tok::Sign(Sign::RightBracket))?;
-        return Ok((Suffix::Index(key), false, to));
+        return Ok((Suffix::Index(Boxed::new(alloc, key)?), false, to));
     }
     if let Some(name) = eat(cut, at, Tok::Sign(Sign::Colon)) {
         let after = expect(cut, name, Tok::Name)?;
@@ -189,13 +190,13 @@ fn args(alloc: Global, cut: &Cut, left: u32, at: u32) -> Result<Args, ParseErr>
     }
     let item = lone_arg(alloc, cut, left, at)?;
     let to = item.to;
-    let mut items = Items::new(alloc);
+    let mut items = Growing::new(alloc);
     items.push(item)?;
     Ok(Args {
         from: at,
         to,
         parens: false,
-        items,
+        items: items.exact(),
     })
 }
 

@@ -16,12 +16,13 @@ use crate::ParseErr;
 use crate::assignments::expr_stat;
 use crate::blocks::{block, ended_block, func_body};
 use crate::expressions::{expr, exprs};
+use crate::growing::Growing;
 use crate::loops::for_stat;
 use crate::names::{declared, method, path};
 use crate::tokens::{eat, enter, expect, refusal};
 use luf_lex::{Cut, Sign, Tok, Word};
 use luf_tree::{Arm, Block, Stat, StatKind};
-use sqlite_items::Items;
+use sqlite_items::{Boxed, Items};
 use std::alloc::Global;
 
 /// A statement other than `return`.
@@ -166,7 +167,10 @@ fn while_stat(alloc: Global, cut: &Cut, left: u32, at: u32, next: u32) -> Result
     Ok(Stat {
         from: at,
         to,
-        what: StatKind::While { test, body },
+        what: StatKind::While {
+            test: Boxed::new(alloc, test)?,
+            body,
+        },
     })
 }
 
@@ -188,7 +192,10 @@ fn repeat_stat(alloc: Global, cut: &Cut, left: u32, at: u32, next: u32) -> Resul
     Ok(Stat {
         from: at,
         to: test.to,
-        what: StatKind::Repeat { body, test },
+        what: StatKind::Repeat {
+            body,
+            test: Boxed::new(alloc, test)?,
+        },
     })
 }
 
@@ -221,13 +228,13 @@ fn arms(alloc: Global, cut: &Cut, left: u32, mut at: u32) -> Result<(Items<Arm>,
     ensures only { IfOk result (Alone (ReadArms (toks_of cut.now) left at)) }
     ensures none { IfErr result (Refutes (ReadArms (toks_of cut.now) left at)) }
 {
-    let mut found = Items::new(alloc);
+    let mut found = Growing::new(alloc);
     loop {
         let (one, to) = arm(alloc, cut, left, at)?;
         found.push(one)?;
         match eat(cut, to, Tok::Word(Word::ElseIf)) {
             Some(next) => at = next,
-            None => return Ok((found, to)),
+            None => return Ok((found.exact(), to)),
         }
     }
 }
@@ -257,7 +264,7 @@ fn else_block(
     cut: &Cut,
     left: u32,
     at: u32,
-) -> Result<(Option<Block>, u32), ParseErr>
+) -> Result<(Option<Boxed<Block>>, u32), ParseErr>
     requires left { left ≤ 200 }
     requires within { at ≤ length (toks_of cut.now) }
     ensures ok { IfOk result (λ r. Found (toks_of cut.now) at r.1 left (block_if_there (option_map block_levels r.0)) (IsElse (toks_of cut.now) at r.1 r.0)) }
@@ -271,7 +278,7 @@ fn else_block(
     let inner = enter(cut, left, at)?;
     let body = block(alloc, cut, inner, inside)?;
     let to = body.to;
-    Ok((Some(body), to))
+    Ok((Some(Boxed::new(alloc, body)?), to))
 }
 
 /// `'function' Name {'.' Name} [':' Name] body` behind its `function`.
@@ -291,7 +298,11 @@ fn function_stat(alloc: Global, cut: &Cut, left: u32, at: u32, next: u32) -> Res
     Ok(Stat {
         from: at,
         to: body.to,
-        what: StatKind::Function { path, method, body },
+        what: StatKind::Function {
+            path,
+            method,
+            body: Boxed::new(alloc, body)?,
+        },
     })
 }
 
@@ -312,7 +323,10 @@ fn local_stat(alloc: Global, cut: &Cut, left: u32, at: u32, next: u32) -> Result
         return Ok(Stat {
             from: at,
             to: body.to,
-            what: StatKind::LocalFunction { name, body },
+            what: StatKind::LocalFunction {
+                name,
+                body: Boxed::new(alloc, body)?,
+            },
         });
     }
     let (names, end) = declared(alloc, cut, next)?;

@@ -12,10 +12,11 @@ ghost use Rattle.luf_parse.specs.Parts.{ReadField, ReadFields, ReadKeyed, ReadTa
 
 use crate::ParseErr;
 use crate::expressions::expr;
+use crate::growing::Growing;
 use crate::tokens::{eat, enter, expect, take};
 use luf_lex::{Cut, Sign, Tok};
 use luf_tree::{Expr, ExprKind, Field};
-use sqlite_items::Items;
+use sqlite_items::{Boxed, Items};
 use std::alloc::Global;
 
 /// A table as an expression.
@@ -61,16 +62,16 @@ fn fields(alloc: Global, cut: &Cut, left: u32, mut at: u32) -> Result<(Items<Fie
     ensures only { IfOk result (Alone (ReadFields (toks_of cut.now) left at)) }
     ensures none { IfErr result (Refutes (ReadFields (toks_of cut.now) left at)) }
 {
-    let mut found = Items::new(alloc);
+    let mut found = Growing::new(alloc);
     'fields: loop {
         if cut.is_at(at, Tok::Sign(Sign::RightBrace)) {
-            return Ok((found, at));
+            return Ok((found.exact(), at));
         }
         let (one, to) = field(alloc, cut, left, at)?;
         found.push(one)?;
         match separator(cut, to) {
             Some(next) => at = next,
-            None => return Ok((found, to)),
+            None => return Ok((found.exact(), to)),
         }
     }
 }
@@ -142,5 +143,6 @@ fn keyed(
     let from = expect(cut, close, Tok::Sign(Sign::Assign))?;
     let value = expr(alloc, cut, left, from, 1)?;
     let to = value.to;
+    let key = Boxed::new(alloc, key)?;
     Ok((Field::Keyed { key, value }, to))
 }
