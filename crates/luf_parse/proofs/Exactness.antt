@@ -54,6 +54,10 @@ pub err_form : {R A : Type 0} {P Q : A → Type 0} (r : Result R ParseErr) → (
 err_form (Ok x) f h = cc
 err_form (Err x) f h = refutes_form f h
 
+-- a part that stands in a box is the part
+pub alone_boxed : {A B : Type 0} (f : A → B) {x box : A} → box ≡ x → Alone (λ y. y ≡ f x) (f box)
+alone_boxed f e = alone_is (ap f (sym e))
+
 -- one token stands at a place, and ends at one
 pub token_only : {toks : List Tok} {i j : ℕ} {t : Tok} → IsToken toks i t j → Alone (IsToken toks i t) j
 token_only t k u = let a = t.next in let b = u.next in omega arith
@@ -81,11 +85,11 @@ ahead_last {X} {T} {P} {Q} found {new} {x} {end} ahead e last y p =
     let a = ahead y p in
     a.2 ∙ ap (λ (z : List X × T). (found ++ z.0, z.1)) (last a.0 a.1) ∙ ap (λ xs. (xs, end)) (sym e)
 
-pub ahead_end : {X T : Type 0} {P Q : (List X × T) → Type 0} {found : List X} {end : T} → Ahead P found Q
-    → ((r : List X × T) → Q r → r ≡ ([], end)) → Alone P (found, end)
-ahead_end {X} {T} {P} {Q} {found} {end} ahead last y p =
+pub ahead_end : {X T : Type 0} {P Q : (List X × T) → Type 0} {found all : List X} {end : T} → Ahead P found Q → all ≡ found
+    → ((r : List X × T) → Q r → r ≡ ([], end)) → Alone P (all, end)
+ahead_end {X} {T} {P} {Q} {found} {all} {end} ahead e last y p =
     let a = ahead y p in
-    a.2 ∙ ap (λ (z : List X × T). (found ++ z.0, z.1)) (last a.0 a.1) ∙ ap (λ xs. (xs, end)) (append-nil found)
+    a.2 ∙ ap (λ (z : List X × T). (found ++ z.0, z.1)) (last a.0 a.1) ∙ ap (λ xs. (xs, end)) (append-nil found ∙ sym e)
 
 pub ahead_refutes : {X T : Type 0} {P Q : (List X × T) → Type 0} (found : List X) {e : ParseErr} → Ahead P found Q → Refutes Q e → Refutes P e
 ahead_refutes found ahead h = refutes_by (λ y p. let a = ahead y p in (a.0, a.1)) h

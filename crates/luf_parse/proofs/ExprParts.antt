@@ -118,16 +118,18 @@ pub table_found : {toks : List Tok} {i j k l left inner : ℕ} {fields : List Fi
 table_found {toks} {i} {j} {k} {l} {left} {inner} {fields} t lev h t2 w =
     let n = t.next in let n2 = t2.next in record { derived = g.table t h.derived t2; forward = omega arith; within = omega arith; level = omega arith }
 
-pub keyed_found : {toks : List Tok} {i j k l o p left inner : ℕ} {key value : Expr}
+pub keyed_found : {toks : List Tok} {i j k l o p left inner : ℕ} {key value : Expr} {box : Expr}
     → IsToken toks i (Sign sign.LeftBracket) j
     → left ≡ inner + 1
     → Found toks (j + 1) k inner (expr_levels key) (IsExpr toks 1 j k key)
     → IsToken toks k (Sign sign.RightBracket) l
     → IsToken toks l (Sign sign.Assign) o
     → Found toks (o + 1) p left (expr_levels value) (IsExpr toks 1 o p value)
-    → Found toks (i + 1) p left (field_levels (field.Keyed key value)) (IsField toks i p (field.Keyed key value))
-keyed_found {toks} {i} {j} {k} {l} {o} {p} {left} {inner} {key} {value} t lev h t2 t3 h2 =
-    let n = t.next in let n2 = t2.next in let n3 = t3.next in record { derived = g.keyed_field t h.derived t2 t3 h2.derived; forward = omega arith; within = omega arith; level = omega (arith, lv.keyed_levels key value) }
+    → box ≡ key
+    → Found toks (i + 1) p left (field_levels (field.Keyed box value)) (IsField toks i p (field.Keyed box value))
+keyed_found {toks} {i} {j} {k} {l} {o} {p} {left} {inner} {key} {value} {box} t lev h t2 t3 h2 e0 =
+    subst (λ (z : Expr). Found toks (i + 1) p left (field_levels (field.Keyed z value)) (IsField toks i p (field.Keyed z value))) (sym e0)
+    (let n = t.next in let n2 = t2.next in let n3 = t3.next in record { derived = g.keyed_field t h.derived t2 t3 h2.derived; forward = omega arith; within = omega arith; level = omega (arith, lv.keyed_levels key value) })
 
 pub named_found : {toks : List Tok} {i j k l left : ℕ} {value : Expr}
     → IsToken toks i Name j
@@ -190,15 +192,17 @@ pub dot_found : {toks : List Tok} {i j k left : ℕ}
 dot_found {toks} {i} {j} {k} {left} t t2 w =
     let n = t.next in let n2 = t2.next in record { derived = g.dot_suffix t t2; forward = omega arith; within = omega arith; level = omega (arith, lv.dot_levels j) }
 
-pub index_found : {toks : List Tok} {i j k l left inner : ℕ} {e : Expr}
+pub index_found : {toks : List Tok} {i j k l left inner : ℕ} {e : Expr} {box : Expr}
     → IsToken toks i (Sign sign.LeftBracket) j
     → left ≡ inner + 1
     → Found toks (j + 1) k inner (expr_levels e) (IsExpr toks 1 j k e)
     → IsToken toks k (Sign sign.RightBracket) l
     → l ≤ length toks
-    → Found toks (i + 1) l left (suffix_levels (suffix.Index e)) (IsSuffix toks false i l (suffix.Index e))
-index_found {toks} {i} {j} {k} {l} {left} {inner} {e} t lev h t2 w =
-    let n = t.next in let n2 = t2.next in record { derived = g.index_suffix t h.derived t2; forward = omega arith; within = omega arith; level = omega (arith, lv.index_levels e) }
+    → box ≡ e
+    → Found toks (i + 1) l left (suffix_levels (suffix.Index box)) (IsSuffix toks false i l (suffix.Index box))
+index_found {toks} {i} {j} {k} {l} {left} {inner} {e} {box} t lev h t2 w e0 =
+    subst (λ (z : Expr). Found toks (i + 1) l left (suffix_levels (suffix.Index z)) (IsSuffix toks false i l (suffix.Index z))) (sym e0)
+    (let n = t.next in let n2 = t2.next in record { derived = g.index_suffix t h.derived t2; forward = omega arith; within = omega arith; level = omega (arith, lv.index_levels e) })
 
 pub call_found : {toks : List Tok} {i j left : ℕ} {args : Args}
     → Found toks (i + 1) j left (args_levels args) (IsArgs toks i j args)

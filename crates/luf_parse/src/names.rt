@@ -75,13 +75,13 @@ pub fn params(alloc: Global, cut: &Cut, mut at: u32) -> Result<(Items<u32>, bool
     ensures only { IfOk result (Alone (ReadParams (toks_of cut.now) at)) }
     ensures none { IfErr result (Refutes (ReadParams (toks_of cut.now) at)) }
 {
-    let mut found = Growing::new(alloc);
     if let Some(to) = eat(cut, at, Tok::Sign(Sign::Dots)) {
-        return Ok((found.exact(), true, to));
+        return Ok((Items::new(alloc), true, to));
     }
     if !cut.is_at(at, Tok::Name) {
-        return Ok((found.exact(), false, at));
+        return Ok((Items::new(alloc), false, at));
     }
+    let mut found = Growing::new(alloc);
     loop {
         let to = expect(cut, at, Tok::Name)?;
         found.push(at)?;
