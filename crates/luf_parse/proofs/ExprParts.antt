@@ -17,7 +17,7 @@ use Rattle.luf_tree.specs.declared.tree.Suffix.TheVariants as suffix
 use Rattle.luf_tree.specs.declared.tree.Args.{Args, roll-Args, out-Args}
 use Rattle.luf_tree.specs.declared.tree.Field.{Field}
 use Rattle.luf_tree.specs.declared.tree.Field.TheVariants as field
-use Rattle.luf_tree.specs.Operator.{binary_level, is_unary}
+use Rattle.luf_tree.specs.Operator.{binary_precedence, is_unary}
 use Rattle.luf_tree.specs.Level.{deepest, expr_levels, block_levels, stat_levels, field_levels, suffix_levels, step_levels, args_levels, body_levels}
 use Rattle.luf_tree.specs.Grammar as g
 use Rattle.luf_tree.specs.Grammar.{expression, statement, IsToken, IsString, IsClosed, IsExpr, AreSteps, IsOperand, IsSimple, IsPrefix, IsVariable, IsCall, IsParen, IsHead, AreSuffixes, IsSuffix, IsArgs, AreExprs, IsTable, AreFields, IsField, IsFuncBody, IsBlock, AreStats, IsReturn, IsStat, AreTargets, IsArm, AreArms, IsElse, IsForStep, IsSemicolon, AreNames, AreParams, AreDeclared, IsPath, IsMethod}
@@ -89,7 +89,7 @@ chain_found {toks} {level} {i} {j} {k} {left} {a} {b} {rest} pos h d fw w ls eb 
     (record { derived = g.chain_expr pos (omega arith) h.derived d; forward = omega arith; within = omega arith; level = omega (arith, lv.chain_levels i k a rest) })
 
 -- no operator of a level stands at a place; so if one stood there, it was of another
-pub operator_at : {toks : List Tok} {i j : ℕ} {tok : Tok} (level : ℕ) → IsToken toks i tok j → level_at toks i ≡ level → binary_level tok ≡ level
+pub operator_at : {toks : List Tok} {i j : ℕ} {tok : Tok} (level : ℕ) → IsToken toks i tok j → level_at toks i ≡ level → binary_precedence tok ≡ level
 operator_at {i = i} {tok = tok} level t is = subst (λ (o : Option Tok). level_of o ≡ level) t.there is
 
 pub function_found : {toks : List Tok} {i j k left inner : ℕ} {f g2 : FuncBody}

@@ -7,7 +7,7 @@ use Rattle.luf_lex.specs.declared.token.Word.{Word}
 use Rattle.luf_lex.specs.declared.token.Word.TheVariants as word
 use Rattle.luf_lex.specs.declared.token.Sign.{Sign}
 use Rattle.luf_lex.specs.declared.token.Sign.TheVariants as sign
-use Rattle.luf_tree.specs.Operator.{sign_level}
+use Rattle.luf_tree.specs.Operator.{sign_precedence}
 use Rattle.luf_tree.specs.Grammar.{At}
 use Rattle.luf_parse.specs.Follow.{NotAt, sign_continues, continues_prefix, EndsOperand, EndsExpr, EndsExprs, word_ends_block, ends_block, EndsBlock, word_follows_stat, sign_follows_stat, follows_stat, EndsStat, word_ends_arms, ends_arms, EndsArms, sign_ends_field, ends_field, EndsField, word_stops_stats, stops_stats}
 use Rattle.luf_parse.specs.Reads.{level_of, level_at, sign_begins_suffix, token_begins_suffix, begins_suffix}
@@ -120,7 +120,7 @@ pub block_ends_stats : (toks : List Tok) (i : ℕ) → EndsBlock toks i → stop
 block_ends_stats toks i h = block_stops (slice_get toks i) h
 
 -- a binary operator goes on with no operand
-sign_binary_operand : (s : Sign) → 0 < sign_level s → sign_continues s ≡ false
+sign_binary_operand : (s : Sign) → 0 < sign_precedence s → sign_continues s ≡ false
 sign_binary_operand sign.Dot h = absurd (omega arith)
 sign_binary_operand sign.LeftBracket h = absurd (omega arith)
 sign_binary_operand sign.Colon h = absurd (omega arith)

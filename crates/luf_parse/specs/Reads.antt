@@ -4,7 +4,7 @@ use Rattle.luf_lex.specs.declared.token.Tok.{Tok}
 use Rattle.luf_lex.specs.declared.token.Tok.TheVariants as tok
 use Rattle.luf_lex.specs.declared.token.Sign.{Sign}
 use Rattle.luf_lex.specs.declared.token.Sign.TheVariants as sign
-use Rattle.luf_tree.specs.Operator.{binary_level}
+use Rattle.luf_tree.specs.Operator.{binary_precedence}
 use Rattle.luf_parse.specs.declared.error.ParseErr.{ParseErr}
 use Rattle.luf_parse.specs.declared.error.ParseErr.TheVariants as error
 
@@ -24,7 +24,7 @@ pub record Found (toks : List Tok) (from to left levels : ℕ) (Derived : Type 0
 
 abbrev pub level_of : Option Tok → ℕ
 level_of None = 0
-level_of (Some t) = binary_level t
+level_of (Some t) = binary_precedence t
 
 -- the level of the binary operator at a place; 0 where none stands
 abbrev pub level_at : List Tok → ℕ → ℕ

@@ -86,7 +86,7 @@ pub fn level_at(cut: &Cut, at: u32) -> u8
 }
 
 fn word_level(word: Word) -> u8
-    ensures value { result ≡ operator.word_level word }
+    ensures value { result ≡ operator.word_precedence word }
     ensures small { result ≤ 10 }
 {
     match word {
@@ -97,7 +97,7 @@ fn word_level(word: Word) -> u8
 }
 
 fn sign_level(sign: Sign) -> u8
-    ensures value { result ≡ operator.sign_level sign }
+    ensures value { result ≡ operator.sign_precedence sign }
     ensures small { result ≤ 10 }
 {
     match sign {

@@ -2,7 +2,7 @@
 -- says that the tokens from one place to another, which is excluded, form a part of the tree.
 --
 -- The manual leaves two things to its text, and here they are part of the grammar. Precedence (3.4.8): an
--- expression has a level, from 1 on, and operands of one level stand in one chain; `IsExpr toks 1` is any
+-- expression has a precedence, from 1 on, and operators of one precedence stand in one chain; `IsExpr toks 1` is any
 -- expression. And a `(` that can continue a call continues it (after 3.3.1): no `(` follows a prefix expression
 -- that is whole (`IsClosed`). So of two statements the first does not end in a prefix expression where the second
 -- begins with `(`.
@@ -28,7 +28,7 @@ use Rattle.luf_tree.specs.declared.tree.Suffix.TheVariants as suffix
 use Rattle.luf_tree.specs.declared.tree.Args.{Args, roll-Args}
 use Rattle.luf_tree.specs.declared.tree.Field.{Field}
 use Rattle.luf_tree.specs.declared.tree.Field.TheVariants as field
-use Rattle.luf_tree.specs.Operator.{binary_level, is_unary}
+use Rattle.luf_tree.specs.Operator.{binary_precedence, is_unary}
 
 -- this token stands at this place
 abbrev pub At : List Tok → ℕ → Tok → Type 0
@@ -94,17 +94,17 @@ pub data IsSemicolon (toks : List Tok) : ℕ → ℕ → Type 0 where
   a_semicolon : {i j : ℕ} → IsToken toks i (Sign sign.Semicolon) j → IsSemicolon toks i j
 
 mutual
-  -- an expression of a level or a higher one: an operand, or a chain of one level whose operands are of higher ones
+  -- an expression of a precedence or a higher one: an operand, or a chain of operators of one precedence between operands of higher ones
   pub data IsExpr (toks : List Tok) : ℕ → ℕ → ℕ → Expr → Type 0 where
     operand_expr : {n i j : ℕ} {e : Expr} → IsOperand toks i j e → IsExpr toks n i j e
     chain_expr : {n m i j k : ℕ} {first : Expr} {rest : List Step} → 0 < m → n ≤ m → IsExpr toks (m + 1) i j first → AreSteps toks m j k rest
         → IsExpr toks n i k (expression i k (expr.Chain first rest))
 
-  -- operators of a level, each with its right operand
+  -- operators of one precedence, each with its right operand
   pub data AreSteps (toks : List Tok) : ℕ → ℕ → ℕ → List Step → Type 0 where
-    one_step : {m i j k : ℕ} {tok : Tok} {e : Expr} → IsToken toks i tok j → binary_level tok ≡ m → IsExpr toks (m + 1) j k e
+    one_step : {m i j k : ℕ} {tok : Tok} {e : Expr} → IsToken toks i tok j → binary_precedence tok ≡ m → IsExpr toks (m + 1) j k e
         → AreSteps toks m i k (roll-Step (record { sign = i; right = e }) ∷ [])
-    more_steps : {m i j k l : ℕ} {tok : Tok} {e : Expr} {rest : List Step} → IsToken toks i tok j → binary_level tok ≡ m → IsExpr toks (m + 1) j k e
+    more_steps : {m i j k l : ℕ} {tok : Tok} {e : Expr} {rest : List Step} → IsToken toks i tok j → binary_precedence tok ≡ m → IsExpr toks (m + 1) j k e
         → AreSteps toks m k l rest → AreSteps toks m i l (roll-Step (record { sign = i; right = e }) ∷ rest)
 
   -- what stands between binary operators: `^` binds tighter than a unary operator on its left, and groups to the right
