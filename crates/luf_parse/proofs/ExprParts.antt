@@ -20,10 +20,11 @@ use Rattle.luf_tree.specs.declared.tree.Field.TheVariants as field
 use Rattle.luf_tree.specs.Operator.{binary_precedence, is_unary}
 use Rattle.luf_tree.specs.Level.{deepest, expr_levels, block_levels, stat_levels, field_levels, suffix_levels, step_levels, args_levels, body_levels}
 use Rattle.luf_tree.specs.Grammar as g
-use Rattle.luf_tree.specs.Grammar.{expression, statement, IsToken, IsString, IsClosed, IsExpr, AreSteps, IsOperand, IsSimple, IsPrefix, IsVariable, IsCall, IsParen, IsHead, AreSuffixes, IsSuffix, IsArgs, AreExprs, IsTable, AreFields, IsField, IsFuncBody, IsBlock, AreStats, IsReturn, IsStat, AreTargets, IsArm, AreArms, IsElse, IsForStep, IsSemicolon, AreNames, AreParams, AreDeclared, IsPath, IsMethod}
+use Rattle.luf_tree.specs.Grammar.{expression, statement, IsToken, IsString, NoParenFollows, IsExpr, AreSteps, IsOperand, IsSimple, IsPrefix, IsVariable, IsCall, IsParen, IsHead, AreSuffixes, IsSuffix, IsArgs, AreExprs, IsTable, AreFields, IsField, IsFuncBody, IsBlock, AreStats, IsReturn, IsStat, AreTargets, IsArm, AreArms, IsElse, IsForStep, IsSemicolon, AreNames, AreParams, AreDeclared, IsPath, IsMethod}
 use Rattle.luf_tree.proofs.LevelEquations as lv
-use Rattle.luf_parse.specs.Reads.{Found, level_at, level_of}
-use Rattle.luf_parse.specs.Shapes.{IsShaped, suffixed_shape, lone_args}
+use Rattle.luf_parse.specs.inner.Reads.{Found}
+use Rattle.luf_parse.specs.inner.Follow.{precedence_at, precedence_of}
+use Rattle.luf_parse.specs.inner.Shapes.{IsShaped, suffixed_shape, lone_args}
 use Rattle.luf_parse.specs.declared.prefixes.Shape.{Shape}
 use Rattle.luf_parse.specs.declared.prefixes.Shape.TheVariants as shape
 
@@ -89,8 +90,8 @@ chain_found {toks} {level} {i} {j} {k} {left} {a} {b} {rest} pos h d fw w ls eb 
     (record { derived = g.chain_expr pos (omega arith) h.derived d; forward = omega arith; within = omega arith; level = omega (arith, lv.chain_levels i k a rest) })
 
 -- no operator of a level stands at a place; so if one stood there, it was of another
-pub operator_at : {toks : List Tok} {i j : ℕ} {tok : Tok} (level : ℕ) → IsToken toks i tok j → level_at toks i ≡ level → binary_precedence tok ≡ level
-operator_at {i = i} {tok = tok} level t is = subst (λ (o : Option Tok). level_of o ≡ level) t.there is
+pub operator_at : {toks : List Tok} {i j : ℕ} {tok : Tok} (level : ℕ) → IsToken toks i tok j → precedence_at toks i ≡ level → binary_precedence tok ≡ level
+operator_at {i = i} {tok = tok} level t is = subst (λ (o : Option Tok). precedence_of o ≡ level) t.there is
 
 pub function_found : {toks : List Tok} {i j k left inner : ℕ} {f g2 : FuncBody}
     → IsToken toks i (Word word.Function) j
@@ -181,7 +182,7 @@ shaped_prefix shape.Variable h = g.variable_prefix h
 shaped_prefix shape.Call h = g.call_prefix h
 shaped_prefix shape.Paren h = g.paren_prefix h
 
-pub prefix_found : {toks : List Tok} {i j left : ℕ} {e : Expr} (shape : Shape) → Found toks (i + 1) j left (expr_levels e) (IsShaped toks i j shape e) → IsClosed toks j → Found toks (i + 1) j left (expr_levels e) (IsSimple toks i j e)
+pub prefix_found : {toks : List Tok} {i j left : ℕ} {e : Expr} (shape : Shape) → Found toks (i + 1) j left (expr_levels e) (IsShaped toks i j shape e) → NoParenFollows toks j → Found toks (i + 1) j left (expr_levels e) (IsSimple toks i j e)
 prefix_found shape h closed = record { derived = g.prefix_simple (shaped_prefix shape h.derived) closed; forward = h.forward; within = h.within; level = h.level }
 
 pub dot_found : {toks : List Tok} {i j k left : ℕ}

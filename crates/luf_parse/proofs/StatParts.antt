@@ -13,12 +13,12 @@ use Rattle.luf_tree.specs.declared.tree.FuncBody.{FuncBody}
 use Rattle.luf_tree.specs.declared.tree.Expr.{Expr}
 use Rattle.luf_tree.specs.Level.{deepest, if_there, block_if_there, expr_levels, block_levels, stat_levels, arm_levels, body_levels}
 use Rattle.luf_tree.specs.Grammar as g
-use Rattle.luf_tree.specs.Grammar.{expression, statement, IsToken, IsString, IsClosed, IsExpr, AreSteps, IsOperand, IsSimple, IsPrefix, IsVariable, IsCall, IsParen, IsHead, AreSuffixes, IsSuffix, IsArgs, AreExprs, IsTable, AreFields, IsField, IsFuncBody, IsBlock, AreStats, IsReturn, IsStat, AreTargets, IsArm, AreArms, IsElse, IsForStep, IsSemicolon, AreNames, AreParams, AreDeclared, IsPath, IsMethod}
+use Rattle.luf_tree.specs.Grammar.{expression, statement, IsToken, IsString, NoParenFollows, IsExpr, AreSteps, IsOperand, IsSimple, IsPrefix, IsVariable, IsCall, IsParen, IsHead, AreSuffixes, IsSuffix, IsArgs, AreExprs, IsTable, AreFields, IsField, IsFuncBody, IsBlock, AreStats, IsReturn, IsStat, AreTargets, IsArm, AreArms, IsElse, IsForStep, IsSemicolon, AreNames, AreParams, AreDeclared, IsPath, IsMethod}
 use Rattle.luf_tree.proofs.LevelEquations as lv
-use Rattle.luf_parse.specs.Reads.{Found}
+use Rattle.luf_parse.specs.inner.Reads.{Found}
 use Rattle.luf_parse.specs.declared.prefixes.Shape.{Shape}
 use Rattle.luf_parse.specs.declared.prefixes.Shape.TheVariants as shape
-use Rattle.luf_parse.specs.Shapes.{IsShaped}
+use Rattle.luf_parse.specs.inner.Shapes.{IsShaped}
 
 pub break_found : {toks : List Tok} {i j left : ℕ}
     → IsToken toks i (Word word.Break) j
@@ -189,7 +189,7 @@ local_values_found {toks} {i} {j} {k} {l} {o} {left} {declared} {es} t h t2 h2 =
 
 pub call_stat_found : {toks : List Tok} {i j left : ℕ} {e : Expr}
     → Found toks (i + 1) j left (expr_levels e) (IsCall toks i j e)
-    → IsClosed toks j
+    → NoParenFollows toks j
     → Found toks (i + 1) j left (stat_levels (statement i j (stat.Call e))) (IsStat toks i j (statement i j (stat.Call e)))
 call_stat_found {toks} {i} {j} {left} {e} h closed =
     record { derived = g.call_stat h.derived closed; forward = omega arith; within = omega arith; level = omega (arith, lv.call_levels i j e) }
@@ -202,7 +202,7 @@ pub assign_found : {toks : List Tok} {i j k l left : ℕ} {targets es : List Exp
 assign_found {toks} {i} {j} {k} {l} {left} {targets} {es} h t h2 =
     let n = t.next in record { derived = g.assign_stat h.derived t h2.derived; forward = omega arith; within = omega arith; level = omega (arith, lv.assign_levels i l targets es) }
 
-pub call_shaped : {toks : List Tok} {i j left : ℕ} {e : Expr} (s : Shape) → s ≡ shape.Call → Found toks (i + 1) j left (expr_levels e) (IsShaped toks i j s e) → IsClosed toks j
+pub call_shaped : {toks : List Tok} {i j left : ℕ} {e : Expr} (s : Shape) → s ≡ shape.Call → Found toks (i + 1) j left (expr_levels e) (IsShaped toks i j s e) → NoParenFollows toks j
     → Found toks (i + 1) j left (stat_levels (statement i j (stat.Call e))) (IsStat toks i j (statement i j (stat.Call e)))
 call_shaped {toks} {i} {j} {left} {e} s is h closed =
     call_stat_found (record { derived = subst (λ (z : Shape). IsShaped toks i j z e) is h.derived; forward = h.forward; within = h.within; level = h.level }) closed

@@ -14,8 +14,6 @@ mod names;
 mod prefixes;
 mod statements;
 mod tables;
-#[cfg(test)]
-mod tests;
 mod tokens;
 mod whole;
 

@@ -6,10 +6,10 @@ ghost use Rattle.luf_lex.specs.declared.token.Word.TheVariants as word;
 ghost use Rattle.luf_tree.specs.declared.tree.Stat.{out-Stat};
 ghost use Rattle.luf_tree.specs.Grammar.{IsToken, IsStat, IsForStep};
 ghost use Rattle.luf_tree.specs.Level.{expr_levels, stat_levels, if_there};
-ghost use Rattle.luf_parse.specs.Reads.{IsRefusal, Found};
-ghost use Rattle.luf_parse.specs.Exact.{Alone, Refutes};
-ghost use Rattle.luf_parse.specs.Follow.{IsAssigned};
-ghost use Rattle.luf_parse.specs.Parts.{ReadCount, ReadFor, ReadForStep};
+ghost use Rattle.luf_parse.specs.inner.Reads.{Found};
+ghost use Rattle.luf_parse.specs.inner.Exact.{Alone, Refutes};
+ghost use Rattle.luf_parse.specs.inner.Follow.{IsAssigned};
+ghost use Rattle.luf_parse.specs.inner.Parts.{ReadCount, ReadFor, ReadForStep};
 
 use crate::ParseErr;
 use crate::blocks::ended_block;
@@ -25,12 +25,10 @@ use std::alloc::Global;
 /// A `for` statement behind its `for`.
 #[cycle(parse)]
 pub fn for_stat(alloc: Global, cut: &Cut, left: u32, at: u32, next: u32) -> Result<Stat, ParseErr>
-    requires left { left ≤ 200 }
     requires word { IsToken (toks_of cut.now) at (Tok.Word word.For) next }
     ensures ok { IfOk result (λ s. Found (toks_of cut.now) (at + 1) (out-Stat s).to left (stat_levels s) (IsStat (toks_of cut.now) at (out-Stat s).to s)) }
-    ensures err { IfErr result (IsRefusal (toks_of cut.now)) }
     ensures only { IfOk result (Alone (ReadFor (toks_of cut.now) left at next)) }
-    ensures none { IfErr result (Refutes (ReadFor (toks_of cut.now) left at next)) }
+    ensures none { IfErr result (Refutes (toks_of cut.now) (ReadFor (toks_of cut.now) left at next)) }
 {
     if let Some(from) = assigned(cut, next) {
         return count_stat(alloc, cut, left, at, next, from);
@@ -61,13 +59,11 @@ fn count_stat(
     name: u32,
     from: u32,
 ) -> Result<Stat, ParseErr>
-    requires left { left ≤ 200 }
     requires word { IsToken (toks_of cut.now) at (Tok.Word word.For) name }
     requires name { IsAssigned (toks_of cut.now) name from }
     ensures ok { IfOk result (λ s. Found (toks_of cut.now) (at + 1) (out-Stat s).to left (stat_levels s) (IsStat (toks_of cut.now) at (out-Stat s).to s)) }
-    ensures err { IfErr result (IsRefusal (toks_of cut.now)) }
     ensures only { IfOk result (Alone (ReadCount (toks_of cut.now) left at name from)) }
-    ensures none { IfErr result (Refutes (ReadCount (toks_of cut.now) left at name from)) }
+    ensures none { IfErr result (Refutes (toks_of cut.now) (ReadCount (toks_of cut.now) left at name from)) }
 {
     let first = expr(alloc, cut, left, from, 1)?;
     let second = expect(cut, first.to, Tok::Sign(Sign::Comma))?;
@@ -96,12 +92,10 @@ fn for_step(
     left: u32,
     at: u32,
 ) -> Result<(Option<Boxed<Expr>>, u32), ParseErr>
-    requires left { left ≤ 200 }
     requires within { at ≤ length (toks_of cut.now) }
     ensures ok { IfOk result (λ r. Found (toks_of cut.now) at r.1 left (if_there (option_map expr_levels r.0)) (IsForStep (toks_of cut.now) at r.1 r.0)) }
-    ensures err { IfErr result (IsRefusal (toks_of cut.now)) }
     ensures only { IfOk result (Alone (ReadForStep (toks_of cut.now) left at)) }
-    ensures none { IfErr result (Refutes (ReadForStep (toks_of cut.now) left at)) }
+    ensures none { IfErr result (Refutes (toks_of cut.now) (ReadForStep (toks_of cut.now) left at)) }
 {
     let Some(from) = eat(cut, at, Tok::Sign(Sign::Comma)) else {
         return Ok((None, at));

@@ -2,9 +2,9 @@
 ghost use Rattle.std.specs.Prelude.{◌≡◌, ◌+◌, ◌<◌, ◌≤◌, length, IfOk, IfErr};
 ghost use Rattle.luf_lex.specs.Tokens.{toks_of};
 ghost use Rattle.luf_tree.specs.Grammar.{AreNames, AreParams, IsAttribute, AreDeclared, IsPath, IsMethod};
-ghost use Rattle.luf_parse.specs.Reads.{IsRefusal, Found};
-ghost use Rattle.luf_parse.specs.Exact.{Alone, Refutes};
-ghost use Rattle.luf_parse.specs.Parts.{ReadAttribute, ReadDeclared, ReadMethod, ReadNames, ReadParams, ReadPath};
+ghost use Rattle.luf_parse.specs.inner.Reads.{Found};
+ghost use Rattle.luf_parse.specs.inner.Exact.{Alone, Refutes};
+ghost use Rattle.luf_parse.specs.inner.Parts.{ReadAttribute, ReadDeclared, ReadMethod, ReadNames, ReadParams, ReadPath};
 
 use crate::ParseErr;
 use crate::growing::Growing;
@@ -17,9 +17,8 @@ use std::alloc::Global;
 /// `Name {',' Name}`, and the place after it.
 pub fn names(alloc: Global, cut: &Cut, mut at: u32) -> Result<(Items<u32>, u32), ParseErr>
     ensures ok { IfOk result (λ r. Found (toks_of cut.now) (at + 1) r.1 0 0 (AreNames (toks_of cut.now) at r.1 r.0)) }
-    ensures err { IfErr result (IsRefusal (toks_of cut.now)) }
     ensures only { IfOk result (Alone (ReadNames (toks_of cut.now) at)) }
-    ensures none { IfErr result (Refutes (ReadNames (toks_of cut.now) at)) }
+    ensures none { IfErr result (Refutes (toks_of cut.now) (ReadNames (toks_of cut.now) at)) }
 {
     let mut found = Growing::new(alloc);
     loop {
@@ -35,9 +34,8 @@ pub fn names(alloc: Global, cut: &Cut, mut at: u32) -> Result<(Items<u32>, u32),
 /// `Name {'.' Name}`, and the place after it.
 pub fn path(alloc: Global, cut: &Cut, mut at: u32) -> Result<(Items<u32>, u32), ParseErr>
     ensures ok { IfOk result (λ r. Found (toks_of cut.now) (at + 1) r.1 0 0 (IsPath (toks_of cut.now) at r.1 r.0)) }
-    ensures err { IfErr result (IsRefusal (toks_of cut.now)) }
     ensures only { IfOk result (Alone (ReadPath (toks_of cut.now) at)) }
-    ensures none { IfErr result (Refutes (ReadPath (toks_of cut.now) at)) }
+    ensures none { IfErr result (Refutes (toks_of cut.now) (ReadPath (toks_of cut.now) at)) }
 {
     let mut found = Growing::new(alloc);
     loop {
@@ -54,9 +52,8 @@ pub fn path(alloc: Global, cut: &Cut, mut at: u32) -> Result<(Items<u32>, u32), 
 pub fn method(cut: &Cut, at: u32) -> Result<(Option<u32>, u32), ParseErr>
     requires { at ≤ length (toks_of cut.now) }
     ensures ok { IfOk result (λ r. Found (toks_of cut.now) at r.1 0 0 (IsMethod (toks_of cut.now) at r.1 r.0)) }
-    ensures err { IfErr result (IsRefusal (toks_of cut.now)) }
     ensures only { IfOk result (Alone (ReadMethod (toks_of cut.now) at)) }
-    ensures none { IfErr result (Refutes (ReadMethod (toks_of cut.now) at)) }
+    ensures none { IfErr result (Refutes (toks_of cut.now) (ReadMethod (toks_of cut.now) at)) }
 {
     match eat(cut, at, Tok::Sign(Sign::Colon)) {
         Some(name) => {
@@ -71,9 +68,8 @@ pub fn method(cut: &Cut, at: u32) -> Result<(Option<u32>, u32), ParseErr>
 pub fn params(alloc: Global, cut: &Cut, mut at: u32) -> Result<(Items<u32>, bool, u32), ParseErr>
     requires { at ≤ length (toks_of cut.now) }
     ensures ok { IfOk result (λ r. Found (toks_of cut.now) at r.2 0 0 (AreParams (toks_of cut.now) at r.2 r.0 r.1)) }
-    ensures err { IfErr result (IsRefusal (toks_of cut.now)) }
     ensures only { IfOk result (Alone (ReadParams (toks_of cut.now) at)) }
-    ensures none { IfErr result (Refutes (ReadParams (toks_of cut.now) at)) }
+    ensures none { IfErr result (Refutes (toks_of cut.now) (ReadParams (toks_of cut.now) at)) }
 {
     if let Some(to) = eat(cut, at, Tok::Sign(Sign::Dots)) {
         return Ok((Items::new(alloc), true, to));
@@ -99,9 +95,8 @@ pub fn params(alloc: Global, cut: &Cut, mut at: u32) -> Result<(Items<u32>, bool
 fn attribute(cut: &Cut, at: u32) -> Result<(Option<u32>, u32), ParseErr>
     requires { at ≤ length (toks_of cut.now) }
     ensures ok { IfOk result (λ r. Found (toks_of cut.now) at r.1 0 0 (IsAttribute (toks_of cut.now) at r.1 r.0)) }
-    ensures err { IfErr result (IsRefusal (toks_of cut.now)) }
     ensures only { IfOk result (Alone (ReadAttribute (toks_of cut.now) at)) }
-    ensures none { IfErr result (Refutes (ReadAttribute (toks_of cut.now) at)) }
+    ensures none { IfErr result (Refutes (toks_of cut.now) (ReadAttribute (toks_of cut.now) at)) }
 {
     match eat(cut, at, Tok::Sign(Sign::Less)) {
         Some(name) => {
@@ -116,9 +111,8 @@ fn attribute(cut: &Cut, at: u32) -> Result<(Option<u32>, u32), ParseErr>
 /// `Name attrib {',' Name attrib}`, and the place after it.
 pub fn declared(alloc: Global, cut: &Cut, mut at: u32) -> Result<(Items<Declared>, u32), ParseErr>
     ensures ok { IfOk result (λ r. Found (toks_of cut.now) (at + 1) r.1 0 0 (AreDeclared (toks_of cut.now) at r.1 r.0)) }
-    ensures err { IfErr result (IsRefusal (toks_of cut.now)) }
     ensures only { IfOk result (Alone (ReadDeclared (toks_of cut.now) at)) }
-    ensures none { IfErr result (Refutes (ReadDeclared (toks_of cut.now) at)) }
+    ensures none { IfErr result (Refutes (toks_of cut.now) (ReadDeclared (toks_of cut.now) at)) }
 {
     let mut found = Growing::new(alloc);
     loop {

@@ -25,30 +25,30 @@ use Rattle.luf_parse.proofs.+parse.Goals as goal
 abbrev list_made : ℕ → ℕ → List Expr → Args
 list_made i j es = roll-Args (record { from = i; to = j; parens = false; items = es })
 
-pub expressions::expr-levels-init : goal.expressions::expr-levels-init
-expressions::expr-levels-init t c = record { grown = λ e h. then_rest c.in_ok-whole.ensures.only (operand_form e h); part = operand_found c.in_ok-whole.ensures.ok; least = operand_expr c.in_ok-whole.ensures.ok.derived }
+pub expressions::expr-chains-init : goal.expressions::expr-chains-init
+expressions::expr-chains-init t c = record { grown = λ e h. then_rest c.in_ok-whole.ensures.only (operand_form e h); part = operand_found c.in_ok-whole.ensures.ok; least = operand_expr c.in_ok-whole.ensures.ok.derived }
 
-pub expressions::expr-levels-preserved : goal.expressions::expr-levels-preserved
-expressions::expr-levels-preserved t c =
+pub expressions::expr-chains-preserved : goal.expressions::expr-chains-preserved
+expressions::expr-chains-preserved t c =
     let h0 = c.in_ok-whole-2.ensures in
     record {
-      grown = λ e h. then_rest h0.only (grown_form (sym c.level_at-level.ensures.value) (omega arith) e (c.levels.invariant.grown e h));
+      grown = λ e h. then_rest h0.only (grown_form (sym c.precedence_at-precedence.ensures.value) (omega arith) e (c.chains.invariant.grown e h));
       part = weaken_found (omega (arith, h0.ends)) h0.ok;
       least = weaken c.args.least (omega arith) h0.ok.derived;
     }
 
-pub expressions::expr-returns-then-level-least-clause-ok : goal.expressions::expr-returns-then-level-least-clause-ok
-expressions::expr-returns-then-level-least-clause-ok t c =
-    record { derived = c.levels.invariant.least; forward = c.levels.invariant.part.forward; within = c.levels.invariant.part.within; level = c.levels.invariant.part.level }
+pub expressions::expr-returns-then-precedence-least-clause-ok : goal.expressions::expr-returns-then-precedence-least-clause-ok
+expressions::expr-returns-then-precedence-least-clause-ok t c =
+    record { derived = c.chains.invariant.least; forward = c.chains.invariant.part.forward; within = c.chains.invariant.part.within; level = c.chains.invariant.part.level }
 
 pub expressions::expr-returns-in_err-whole-clause-none : goal.expressions::expr-returns-in_err-whole-clause-none
 expressions::expr-returns-in_err-whole-clause-none t c = passes _ c.from_residual.ensures.1 (refutes_form operand_form (refutes_first c.in_err-whole.ensures.none))
 
-pub expressions::expr-returns-then-level-least-clause-only : goal.expressions::expr-returns-then-level-least-clause-only
-expressions::expr-returns-then-level-least-clause-only t c = alone_form c.levels.invariant.grown (grown_end (omega (arith, c.level_at-level.ensures.value)))
+pub expressions::expr-returns-then-precedence-least-clause-only : goal.expressions::expr-returns-then-precedence-least-clause-only
+expressions::expr-returns-then-precedence-least-clause-only t c = alone_form c.chains.invariant.grown (grown_end (omega (arith, c.precedence_at-precedence.ensures.value)))
 
 pub expressions::expr-returns-in_err-whole-2-clause-none : goal.expressions::expr-returns-in_err-whole-2-clause-none
-expressions::expr-returns-in_err-whole-2-clause-none t c = passes _ c.from_residual-in_err-whole-2.ensures.1 (refutes_form c.levels.invariant.grown (refutes_form (grown_form (sym c.level_at-level.ensures.value) (omega arith)) (refutes_first c.in_err-whole-2.ensures.none)))
+expressions::expr-returns-in_err-whole-2-clause-none t c = passes _ c.from_residual-in_err-whole-2.ensures.1 (refutes_form c.chains.invariant.grown (refutes_form (grown_form (sym c.precedence_at-precedence.ensures.value) (omega arith)) (refutes_first c.in_err-whole-2.ensures.none)))
 
 pub expressions::chain-loop-next-preserved : goal.expressions::chain-loop-next-preserved
 expressions::chain-loop-next-preserved t c =
@@ -57,27 +57,27 @@ expressions::chain-loop-next-preserved t c =
     let n = h0.token.next in
     let t : IsToken (toks_of c.args.cut.now) c.loop-next.sign c.in-Some.field-0-0 c.in-Some.next = record { there = cc h0.token.there; next = omega (arith, h0.token.next, c.in-Some.next-is) } in
     record {
-      ahead = ahead_more _ c.loop-next.invariant.ahead c.in_ok-push.ensures.ok (list_more (steps_form c.requires.low t) h1.only (omega (arith, c.level_at.ensures.value), refl));
-      joins = joins_more (AreSteps (toks_of c.args.cut.now) c.args.level) _ _ _ _ _ _ c.loop-next.invariant.joins c.in_ok-push.ensures.ok (λ k rest h. more_steps t (operator_at c.args.level t c.loop-next.invariant.next) h1.ok.derived h);
-      next = omega (arith, c.level_at.ensures.value);
+      ahead = ahead_more _ c.loop-next.invariant.ahead c.in_ok-push.ensures.ok (list_more (steps_form c.requires.low t) h1.only (omega (arith, c.precedence_at.ensures.value), refl));
+      joins = joins_more (AreSteps (toks_of c.args.cut.now) c.args.precedence) _ _ _ _ _ _ c.loop-next.invariant.joins c.in_ok-push.ensures.ok (λ k rest h. more_steps t (operator_at c.args.precedence t c.loop-next.invariant.next) h1.ok.derived h);
+      next = omega (arith, c.precedence_at.ensures.value);
       forward = omega arith;
       level = level_more step_levels _ _ _ _ c.loop-next.invariant.level c.in_ok-push.ensures.ok (omega (arith, step_of_levels c.loop-next.sign c.in_ok-right.right, h1.ok.level));
     }
 
-pub expressions::chain-returns-then-level_at-level-clause-ok : goal.expressions::chain-returns-then-level_at-level-clause-ok
-expressions::chain-returns-then-level_at-level-clause-ok t c =
+pub expressions::chain-returns-then-precedence_at-precedence-clause-ok : goal.expressions::chain-returns-then-precedence_at-precedence-clause-ok
+expressions::chain-returns-then-precedence_at-precedence-clause-ok t c =
     let h0 = c.in-Some.ensures in
     let h1 = c.in_ok-right.ensures in
     let n = h0.token.next in
     let t : IsToken (toks_of c.args.cut.now) c.loop-next.sign c.in-Some.field-0-0 c.in-Some.next = record { there = cc h0.token.there; next = omega (arith, h0.token.next, c.in-Some.next-is) } in
-    chain_found c.requires.low c.requires.first (joins_last (AreSteps (toks_of c.args.cut.now) c.args.level) _ _ _ _ _ _ c.loop-next.invariant.joins (c.exact.ensures ∙ c.in_ok-push.ensures.ok) (one_step t (operator_at c.args.level t c.loop-next.invariant.next) h1.ok.derived))
+    chain_found c.requires.low c.requires.first (joins_last (AreSteps (toks_of c.args.cut.now) c.args.precedence) _ _ _ _ _ _ c.loop-next.invariant.joins (c.exact.ensures ∙ c.in_ok-push.ensures.ok) (one_step t (operator_at c.args.precedence t c.loop-next.invariant.next) h1.ok.derived))
     (omega arith) h1.ok.within (level_more step_levels _ _ _ _ c.loop-next.invariant.level (c.exact.ensures ∙ c.in_ok-push.ensures.ok) (omega (arith, step_of_levels c.loop-next.sign c.in_ok-right.right, h1.ok.level))) c.in_ok-new.ensures
 
 pub expressions::chain-returns-in_err-right-clause-none : goal.expressions::chain-returns-in_err-right-clause-none
 expressions::chain-returns-in_err-right-clause-none t c = passes _ c.from_residual.ensures.1 (refutes_first (ahead_refutes _ c.loop-next.invariant.ahead (refutes_form (steps_form c.requires.low c.in-Some.ensures.token) (refutes_first c.in_err-right.ensures.none))))
 
-pub expressions::chain-returns-then-level_at-level-clause-only : goal.expressions::chain-returns-then-level_at-level-clause-only
-expressions::chain-returns-then-level_at-level-clause-only t c = alone_next (ahead_last _ c.loop-next.invariant.ahead (c.exact.ensures ∙ c.in_ok-push.ensures.ok) (list_last (steps_form c.requires.low c.in-Some.ensures.token) c.in_ok-right.ensures.only (λ next h. let a = h.0 in omega (arith, c.level_at.ensures.value)))) (alone_is (ap (λ (b : Expr). expression c.args.at (out-Expr c.in_ok-right.right).to (expr.Chain b c.exact.result)) (sym c.in_ok-new.ensures)))
+pub expressions::chain-returns-then-precedence_at-precedence-clause-only : goal.expressions::chain-returns-then-precedence_at-precedence-clause-only
+expressions::chain-returns-then-precedence_at-precedence-clause-only t c = alone_next (ahead_last _ c.loop-next.invariant.ahead (c.exact.ensures ∙ c.in_ok-push.ensures.ok) (list_last (steps_form c.requires.low c.in-Some.ensures.token) c.in_ok-right.ensures.only (λ next h. let a = h.0 in omega (arith, c.precedence_at.ensures.value)))) (alone_is (ap (λ (b : Expr). expression c.args.at (out-Expr c.in_ok-right.right).to (expr.Chain b c.exact.result)) (sym c.in_ok-new.ensures)))
 
 pub expressions::operand-returns-then-is_unary-clause-ok : goal.expressions::operand-returns-then-is_unary-clause-ok
 expressions::operand-returns-then-is_unary-clause-ok t c =
@@ -88,7 +88,7 @@ expressions::operand-returns-then-is_unary-clause-ok t c =
     unary_found t (cc (c.is_unary.ensures, c.if-is_unary.true)) h1.ok h2.ok c.in_ok-new.ensures
 
 pub expressions::operand-returns-in_default-clause-none : goal.expressions::operand-returns-in_default-clause-none
-expressions::operand-returns-in_default-clause-none t c = record { nothing = λ known. operand_inside c.in_default.ensures.end }
+expressions::operand-returns-in_default-clause-none t c = record { token = c.refusal.ensures; nothing = λ known. operand_inside c.in_default.ensures.end }
 
 pub expressions::operand-returns-in_err-inner-clause-none : goal.expressions::operand-returns-in_err-inner-clause-none
 expressions::operand-returns-in_err-inner-clause-none t c = passes _ c.from_residual.ensures.1 (refutes_form (unary_form c.in-Some.ensures.token (cc (c.is_unary.ensures, c.if-is_unary.true))) (refutes_first c.in_err-inner.ensures.none))
@@ -132,7 +132,7 @@ expressions::simple-returns-in-Some-leaf-clause-ok t c =
     record { derived = leaf.0; forward = omega (arith, t.next); within = omega (arith, h0.within, c.in-Some.to-is); level = omega (arith, leaf.1) }
 
 pub expressions::simple-returns-in_default-clause-none : goal.expressions::simple-returns-in_default-clause-none
-expressions::simple-returns-in_default-clause-none t c = record { nothing = λ known. simple_inside c.in_default.ensures.end }
+expressions::simple-returns-in_default-clause-none t c = record { token = c.refusal.ensures; nothing = λ known. simple_inside c.in_default.ensures.end }
 
 pub expressions::simple-returns-in-Some-leaf-clause-only : goal.expressions::simple-returns-in-Some-leaf-clause-only
 expressions::simple-returns-in-Some-leaf-clause-only t c = leaf_only {tok = c.in-Some.tok} (record { there = cc (c.in-Some.ensures.token.there, c.in-Some.tok-is); next = omega (arith, c.in-Some.ensures.token.next, c.in-Some.to-is) }) (cc (c.leaf.ensures.kind, c.in-Some-leaf.is))
@@ -796,4 +796,4 @@ pub assignments::variable-returns-in-Variable-clause-only : goal.assignments::va
 assignments::variable-returns-in-Variable-clause-only t c = λ y h. ap (λ (p : PrefixExpr). p.expr) (c.in_ok-prefix.ensures.only (record { shape = Variable; expr = y }) (variable_prefix y h))
 
 pub assignments::variable-returns-in_default : goal.assignments::variable-returns-in_default
-assignments::variable-returns-in_default t c = record { ok = tt; only = tt; err = c.refusal.ensures; none = record { nothing = λ known y h. let e = c.in_ok-prefix.ensures.only (record { shape = Variable; expr = y }) (variable_prefix y h) in c.in_default.not-Variable (ap (λ (p : PrefixExpr). p.shape) (sym e)) } }
+assignments::variable-returns-in_default t c = record { ok = tt; only = tt; none = record { token = c.refusal.ensures; nothing = λ known y h. let e = c.in_ok-prefix.ensures.only (record { shape = Variable; expr = y }) (variable_prefix y h) in c.in_default.not-Variable (ap (λ (p : PrefixExpr). p.shape) (sym e)) } }
