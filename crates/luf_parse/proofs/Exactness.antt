@@ -1,11 +1,12 @@
 -- How exact answers of parts make exact answers of a whole.
-use Rattle.std.proofs.Common.{◌≡◌, ◌↔◌, ℕ, Bool, true, false, List, [], ◌∷◌, ◌++◌, append_assoc, append-nil, sym, ap, ◌∙◌, subst, arith, Ok, Err}
+use Rattle.std.proofs.Common.{◌≡◌, ◌↔◌, ℕ, Bool, true, false, List, [], ◌∷◌, ◌++◌, append_assoc, append-nil, refl, sym, ap, ◌∙◌, subst, arith, Ok, Err}
 use Rattle.std.specs.Prelude.{Result, IfOk, IfErr, IsTrue}
 use Rattle.std.specs.Result.{IsErrAnd}
 use Rattle.luf_lex.specs.declared.token.Tok.{Tok}
 use Rattle.luf_tree.specs.Grammar.{IsToken}
 use Rattle.luf_parse.specs.inner.Exact.{Alone, Refutes, Then}
 use Rattle.luf_parse.specs.declared.error.ParseErr.{ParseErr}
+use Rattle.luf_parse.specs.declared.error.ParseErr.TheVariants as error
 
 -- an error that is passed on is the same
 pub passed : {R : Type 0} (P : ParseErr → Type 0) {e : ParseErr} (r : Result R ParseErr) → IsErrAnd r (λ x. x ≡ e) → P e → IfErr r P
@@ -57,6 +58,15 @@ err_form (Err x) f h = refutes_form f h
 -- a part that stands in a box is the part
 pub alone_boxed : {A B : Type 0} (f : A → B) {x box : A} → box ≡ x → Alone (λ y. y ≡ f x) (f box)
 alone_boxed f e = alone_is (ap f (sym e))
+
+-- what a call makes, where it finds memory
+pub ok_made : {A E : Type 0} {P : A → Type 0} {v : A} (r : Result A E) → IfOk r (λ x. x ≡ v) → P v → IfOk r P
+ok_made {P = P} (Ok x) e h = subst P (sym e) h
+ok_made (Err x) e h = cc
+
+pub err_made : {toks : List Tok} {R A : Type 0} {P : A → Type 0} (r : Result R ParseErr) → IfErr r (λ e. e ≡ error.Memory) → IfErr r (Refutes toks P)
+err_made (Ok x) e = cc
+err_made {toks} {P = P} (Err x) e = subst (Refutes toks P) (sym e) (record { token = tt; nothing = λ known y h. known refl })
 
 -- one token stands at a place, and ends at one
 pub token_only : {toks : List Tok} {i j : ℕ} {t : Tok} → IsToken toks i t j → Alone (IsToken toks i t) j

@@ -720,9 +720,3 @@ grown_form {toks} {least} {level} {left} {i} {whole} next low e h = form least e
     form : (n : ℕ) (e : Expr) → Grown toks left i whole n e → n ≤ level → GrownForm toks level left i whole n e
     form n _ (grown_whole ends) low = absurd (omega arith)
     form n e (grown_chain {level = m} {first = first} some above inner chain ends) low = step n m first e some above inner chain ends (λ h. form (m + 1) first inner h) (cases_lt m level)
-
--- the same prefix expression, made with a copy of its head and with the shape that was told
-pub made_prefix : {i j : ℕ} (calls : Bool) {told : Shape} {head copy : Expr} (suffixes : List Suffix) → told ≡ suffixed_shape calls → copy ≡ head
-    → ◌≡◌ {A = PrefixExpr} (record { shape = suffixed_shape calls; expr = expression i j (expr.Suffixed head suffixes) }) (record { shape = told; expr = expression i j (expr.Suffixed copy suffixes) })
-made_prefix {i} {j} calls {told} {head} {copy} suffixes t h =
-    ap (λ (s : Shape). record { shape = s; expr = expression i j (expr.Suffixed head suffixes) }) (sym t) ∙ ap (λ (e : Expr). record { shape = told; expr = expression i j (expr.Suffixed e suffixes) }) (sym h)

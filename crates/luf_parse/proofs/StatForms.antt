@@ -475,7 +475,3 @@ short_form {toks} {left} {i} prefix local_ if_ for_ function_ while_ do_ repeat_
     none (Some (Sign sign.LeftParen)) starts p h1 h2 h3 h4 h5 h6 h7 b e g l = cc
     none (Some (Sign _)) starts p h1 h2 h3 h4 h5 h6 h7 b e g l = cc
     none (Some _) starts p h1 h2 h3 h4 h5 h6 h7 b e g l = cc
-
--- the same count, where its first value and its limit stand in boxes
-pub count_made : {first limit box bound : Expr} (i j name : ℕ) (step : Option Expr) (body : Block) → box ≡ first → bound ≡ limit → statement i j (stat.For name first limit step body) ≡ statement i j (stat.For name box bound step body)
-count_made {first} {limit} {box} {bound} i j name step body e0 e1 = ap (λ (z : Expr). statement i j (stat.For name z limit step body)) (sym e0) ∙ ap (λ (z : Expr). statement i j (stat.For name box z step body)) (sym e1)

@@ -53,28 +53,24 @@ pub do_found : {toks : List Tok} {i j k l left : ℕ} {body : Block}
 do_found {toks} {i} {j} {k} {l} {left} {body} t h =
     let n = t.next in record { derived = g.do_stat t h.derived.0 h.derived.1; forward = omega arith; within = omega arith; level = omega (arith, lv.do_levels i l body) }
 
-pub while_found : {toks : List Tok} {i j k l o p left : ℕ} {e : Expr} {body : Block} {box : Expr}
+pub while_found : {toks : List Tok} {i j k l o p left : ℕ} {e : Expr} {body : Block}
     → IsToken toks i (Word word.While) j
     → Found toks (j + 1) k left (expr_levels e) (IsExpr toks 1 j k e)
     → IsToken toks k (Word word.Do) l
     → Found toks (l + 1) p left (block_levels body + 1) (IsBlock toks l o body × IsToken toks o (Word word.End) p)
-    → box ≡ e
-    → Found toks (i + 1) p left (stat_levels (statement i p (stat.While box body))) (IsStat toks i p (statement i p (stat.While box body)))
-while_found {toks} {i} {j} {k} {l} {o} {p} {left} {e} {body} {box} t h t2 h2 e0 =
-    subst (λ (z : Expr). Found toks (i + 1) p left (stat_levels (statement i p (stat.While z body))) (IsStat toks i p (statement i p (stat.While z body)))) (sym e0)
-    (let n = t.next in let n2 = t2.next in record { derived = g.while_stat t h.derived t2 h2.derived.0 h2.derived.1; forward = omega arith; within = omega arith; level = omega (arith, lv.while_levels i p e body) })
+    → Found toks (i + 1) p left (stat_levels (statement i p (stat.While e body))) (IsStat toks i p (statement i p (stat.While e body)))
+while_found {toks} {i} {j} {k} {l} {o} {p} {left} {e} {body} t h t2 h2 =
+    let n = t.next in let n2 = t2.next in record { derived = g.while_stat t h.derived t2 h2.derived.0 h2.derived.1; forward = omega arith; within = omega arith; level = omega (arith, lv.while_levels i p e body) }
 
-pub repeat_found : {toks : List Tok} {i j k l o left inner : ℕ} {e : Expr} {body : Block} {box : Expr}
+pub repeat_found : {toks : List Tok} {i j k l o left inner : ℕ} {e : Expr} {body : Block}
     → IsToken toks i (Word word.Repeat) j
     → left ≡ inner + 1
     → Found toks j k inner (block_levels body) (IsBlock toks j k body)
     → IsToken toks k (Word word.Until) l
     → Found toks (l + 1) o left (expr_levels e) (IsExpr toks 1 l o e)
-    → box ≡ e
-    → Found toks (i + 1) o left (stat_levels (statement i o (stat.Repeat body box))) (IsStat toks i o (statement i o (stat.Repeat body box)))
-repeat_found {toks} {i} {j} {k} {l} {o} {left} {inner} {e} {body} {box} t lev h t2 h2 e0 =
-    subst (λ (z : Expr). Found toks (i + 1) o left (stat_levels (statement i o (stat.Repeat body z))) (IsStat toks i o (statement i o (stat.Repeat body z)))) (sym e0)
-    (let n = t.next in let n2 = t2.next in record { derived = g.repeat_stat t h.derived t2 h2.derived; forward = omega arith; within = omega arith; level = omega (arith, lv.repeat_levels i o body e) })
+    → Found toks (i + 1) o left (stat_levels (statement i o (stat.Repeat body e))) (IsStat toks i o (statement i o (stat.Repeat body e)))
+repeat_found {toks} {i} {j} {k} {l} {o} {left} {inner} {e} {body} t lev h t2 h2 =
+    let n = t.next in let n2 = t2.next in record { derived = g.repeat_stat t h.derived t2 h2.derived; forward = omega arith; within = omega arith; level = omega (arith, lv.repeat_levels i o body e) }
 
 pub if_found : {toks : List Tok} {i j k l o left : ℕ} {arms : List Arm} {last : Option Block}
     → IsToken toks i (Word word.If) j
@@ -114,20 +110,18 @@ for_step_found {toks} {i} {j} {k} {left} {e} {box} t h e0 =
     subst (λ (z : Expr). Found toks i k left (expr_levels z) (IsForStep toks i k (Some z))) (sym e0)
     (let n = t.next in record { derived = g.a_for_step t h.derived; forward = omega arith; within = omega arith; level = omega arith })
 
-pub for_in_found : {toks : List Tok} {i j k l o p q r left : ℕ} {es : List Expr} {names : List ℕ} {body : Block} {box : List ℕ}
+pub for_in_found : {toks : List Tok} {i j k l o p q r left : ℕ} {es : List Expr} {names : List ℕ} {body : Block}
     → IsToken toks i (Word word.For) j
     → Found toks (j + 1) k 0 (0) (AreNames toks j k names)
     → IsToken toks k (Word word.In) l
     → Found toks (l + 1) o left (deepest (map expr_levels es)) (AreExprs toks l o es)
     → IsToken toks o (Word word.Do) p
     → Found toks (p + 1) r left (block_levels body + 1) (IsBlock toks p q body × IsToken toks q (Word word.End) r)
-    → box ≡ names
-    → Found toks (i + 1) r left (stat_levels (statement i r (stat.ForIn box es body))) (IsStat toks i r (statement i r (stat.ForIn box es body)))
-for_in_found {toks} {i} {j} {k} {l} {o} {p} {q} {r} {left} {es} {names} {body} {box} t h t2 h2 t3 h3 e0 =
-    subst (λ (z : List ℕ). Found toks (i + 1) r left (stat_levels (statement i r (stat.ForIn z es body))) (IsStat toks i r (statement i r (stat.ForIn z es body)))) (sym e0)
-    (let n = t.next in let n2 = t2.next in let n3 = t3.next in record { derived = g.for_in_stat t h.derived t2 h2.derived t3 h3.derived.0 h3.derived.1; forward = omega arith; within = omega arith; level = omega (arith, lv.for_in_levels i r names es body) })
+    → Found toks (i + 1) r left (stat_levels (statement i r (stat.ForIn names es body))) (IsStat toks i r (statement i r (stat.ForIn names es body)))
+for_in_found {toks} {i} {j} {k} {l} {o} {p} {q} {r} {left} {es} {names} {body} t h t2 h2 t3 h3 =
+    let n = t.next in let n2 = t2.next in let n3 = t3.next in record { derived = g.for_in_stat t h.derived t2 h2.derived t3 h3.derived.0 h3.derived.1; forward = omega arith; within = omega arith; level = omega (arith, lv.for_in_levels i r names es body) }
 
-pub for_found : {toks : List Tok} {i j k l m n o p q r s left : ℕ} {first limit box bound : Expr} {step : Option Expr} {body : Block}
+pub for_found : {toks : List Tok} {i j k l m n o p q r s left : ℕ} {first limit : Expr} {step : Option Expr} {body : Block}
     → IsToken toks i (Word word.For) j
     → IsToken toks j Name k
     → IsToken toks k (Sign sign.Assign) l
@@ -137,37 +131,29 @@ pub for_found : {toks : List Tok} {i j k l m n o p q r s left : ℕ} {first limi
     → Found toks o p left (if_there (option_map expr_levels step)) (IsForStep toks o p step)
     → IsToken toks p (Word word.Do) q
     → Found toks (q + 1) s left (block_levels body + 1) (IsBlock toks q r body × IsToken toks r (Word word.End) s)
-    → box ≡ first
-    → bound ≡ limit
-    → Found toks (i + 1) s left (stat_levels (statement i s (stat.For j box bound step body))) (IsStat toks i s (statement i s (stat.For j box bound step body)))
-for_found {toks} {i} {j} {k} {l} {m} {n} {o} {p} {q} {r} {s} {left} {first} {limit} {box} {bound} {step} {body} t t2 t3 h t4 h2 h3 t5 h4 e0 e1 =
-    subst (λ (z : Expr). Found toks (i + 1) s left (stat_levels (statement i s (stat.For j z bound step body))) (IsStat toks i s (statement i s (stat.For j z bound step body)))) (sym e0)
-    (subst (λ (z : Expr). Found toks (i + 1) s left (stat_levels (statement i s (stat.For j first z step body))) (IsStat toks i s (statement i s (stat.For j first z step body)))) (sym e1)
-    (let n1 = t.next in let n2 = t2.next in let n3 = t3.next in let n4 = t4.next in let n5 = t5.next in record { derived = g.for_stat t t2 t3 h.derived t4 h2.derived h3.derived t5 h4.derived.0 h4.derived.1; forward = omega arith; within = omega arith; level = omega (arith, lv.for_levels i s j first limit step body) }))
+    → Found toks (i + 1) s left (stat_levels (statement i s (stat.For j first limit step body))) (IsStat toks i s (statement i s (stat.For j first limit step body)))
+for_found {toks} {i} {j} {k} {l} {m} {n} {o} {p} {q} {r} {s} {left} {first} {limit} {step} {body} t t2 t3 h t4 h2 h3 t5 h4 =
+    let n1 = t.next in let n2 = t2.next in let n3 = t3.next in let n4 = t4.next in let n5 = t5.next in record { derived = g.for_stat t t2 t3 h.derived t4 h2.derived h3.derived t5 h4.derived.0 h4.derived.1; forward = omega arith; within = omega arith; level = omega (arith, lv.for_levels i s j first limit step body) }
 
-pub function_stat_found : {toks : List Tok} {i j k l o left inner : ℕ} {path : List ℕ} {method : Option ℕ} {f : FuncBody} {box : FuncBody}
+pub function_stat_found : {toks : List Tok} {i j k l o left inner : ℕ} {path : List ℕ} {method : Option ℕ} {f : FuncBody}
     → IsToken toks i (Word word.Function) j
     → left ≡ inner + 1
     → Found toks (j + 1) k 0 (0) (IsPath toks j k path)
     → Found toks k l 0 (0) (IsMethod toks k l method)
     → Found toks (l + 1) o inner (body_levels f) (IsFuncBody toks l o f)
-    → box ≡ f
-    → Found toks (i + 1) o left (stat_levels (statement i o (stat.Function path method box))) (IsStat toks i o (statement i o (stat.Function path method box)))
-function_stat_found {toks} {i} {j} {k} {l} {o} {left} {inner} {path} {method} {f} {box} t lev h h2 h3 e0 =
-    subst (λ (z : FuncBody). Found toks (i + 1) o left (stat_levels (statement i o (stat.Function path method z))) (IsStat toks i o (statement i o (stat.Function path method z)))) (sym e0)
-    (let n = t.next in record { derived = g.function_stat t h.derived h2.derived h3.derived; forward = omega arith; within = omega arith; level = omega (arith, lv.function_stat_levels i o path method f) })
+    → Found toks (i + 1) o left (stat_levels (statement i o (stat.Function path method f))) (IsStat toks i o (statement i o (stat.Function path method f)))
+function_stat_found {toks} {i} {j} {k} {l} {o} {left} {inner} {path} {method} {f} t lev h h2 h3 =
+    let n = t.next in record { derived = g.function_stat t h.derived h2.derived h3.derived; forward = omega arith; within = omega arith; level = omega (arith, lv.function_stat_levels i o path method f) }
 
-pub local_function_found : {toks : List Tok} {i j k l o left inner : ℕ} {f : FuncBody} {box : FuncBody}
+pub local_function_found : {toks : List Tok} {i j k l o left inner : ℕ} {f : FuncBody}
     → IsToken toks i (Word word.Local) j
     → IsToken toks j (Word word.Function) k
     → IsToken toks k Name l
     → left ≡ inner + 1
     → Found toks (l + 1) o inner (body_levels f) (IsFuncBody toks l o f)
-    → box ≡ f
-    → Found toks (i + 1) o left (stat_levels (statement i o (stat.LocalFunction k box))) (IsStat toks i o (statement i o (stat.LocalFunction k box)))
-local_function_found {toks} {i} {j} {k} {l} {o} {left} {inner} {f} {box} t t2 t3 lev h e0 =
-    subst (λ (z : FuncBody). Found toks (i + 1) o left (stat_levels (statement i o (stat.LocalFunction k z))) (IsStat toks i o (statement i o (stat.LocalFunction k z)))) (sym e0)
-    (let n = t.next in let n2 = t2.next in let n3 = t3.next in record { derived = g.local_function_stat t t2 t3 h.derived; forward = omega arith; within = omega arith; level = omega (arith, lv.local_function_levels i o k f) })
+    → Found toks (i + 1) o left (stat_levels (statement i o (stat.LocalFunction k f))) (IsStat toks i o (statement i o (stat.LocalFunction k f)))
+local_function_found {toks} {i} {j} {k} {l} {o} {left} {inner} {f} t t2 t3 lev h =
+    let n = t.next in let n2 = t2.next in let n3 = t3.next in record { derived = g.local_function_stat t t2 t3 h.derived; forward = omega arith; within = omega arith; level = omega (arith, lv.local_function_levels i o k f) }
 
 pub local_found : {toks : List Tok} {i j k left : ℕ} {declared : List Declared} {none : List Expr}
     → IsToken toks i (Word word.Local) j

@@ -11,15 +11,15 @@ ghost use Rattle.luf_parse.specs.inner.Shapes.{IsLeaf, leaf_kind};
 ghost use Rattle.luf_parse.specs.inner.Exact.{Alone, Refutes};
 ghost use Rattle.luf_parse.specs.inner.Parts.{ReadChain, ReadExpr, ReadExprs, ReadFunction, ReadOperand, ReadPower, ReadSimple};
 
-use crate::ParseErr;
 use crate::blocks::func_body;
 use crate::growing::Growing;
 use crate::prefixes::prefix;
 use crate::tables::table_expr;
 use crate::tokens::{eat, enter, is_unary, precedence_at, refusal, take};
+use crate::{ParseErr, made};
 use luf_lex::{Cut, Sign, Tok, Word};
 use luf_tree::{Expr, ExprKind, Step};
-use sqlite_items::{Boxed, Items};
+use sqlite_items::Items;
 use std::alloc::Global;
 
 /// An expression whose binary operators are of precedence `least` or a higher one.
@@ -71,14 +71,7 @@ fn chain(
         let to = right.to;
         rest.push(Step { sign, right })?;
         if precedence_at(cut, to) != precedence {
-            return Ok(Expr {
-                from: at,
-                to,
-                what: ExprKind::Chain {
-                    first: Boxed::new(alloc, first)?,
-                    rest: rest.exact(),
-                },
-            });
+            return made::chain(alloc, at, to, first, rest.exact());
         }
         sign = to;
     }
@@ -97,11 +90,7 @@ fn operand(alloc: Global, cut: &Cut, left: u32, at: u32) -> Result<Expr, ParseEr
     if is_unary(tok) {
         let inner = enter(cut, left, at)?;
         let operand = operand(alloc, cut, inner, next)?;
-        return Ok(Expr {
-            from: at,
-            to: operand.to,
-            what: ExprKind::Unary(Boxed::new(alloc, operand)?),
-        });
+        return made::unary(alloc, at, operand);
     }
     power(alloc, cut, left, at)
 }
@@ -120,15 +109,7 @@ fn power(alloc: Global, cut: &Cut, left: u32, at: u32) -> Result<Expr, ParseErr>
     };
     let inner = enter(cut, left, sign)?;
     let exponent = operand(alloc, cut, inner, next)?;
-    Ok(Expr {
-        from: at,
-        to: exponent.to,
-        what: ExprKind::Power {
-            base: Boxed::new(alloc, base)?,
-            sign,
-            exponent: Boxed::new(alloc, exponent)?,
-        },
-    })
+    made::power(alloc, at, base, sign, exponent)
 }
 
 /// An expression without operators.
@@ -181,11 +162,7 @@ fn function(alloc: Global, cut: &Cut, left: u32, at: u32, next: u32) -> Result<E
 {
     let inner = enter(cut, left, at)?;
     let body = func_body(alloc, cut, inner, next)?;
-    Ok(Expr {
-        from: at,
-        to: body.to,
-        what: ExprKind::Function(Boxed::new(alloc, body)?),
-    })
+    made::function(alloc, at, body)
 }
 
 /// `exp {',' exp}`, and the place after it.

@@ -10,6 +10,7 @@ mod expressions;
 mod growing;
 mod laws;
 mod loops;
+mod made;
 mod names;
 mod prefixes;
 mod statements;

@@ -11,14 +11,14 @@ ghost use Rattle.luf_parse.specs.inner.Exact.{Alone, Refutes};
 ghost use Rattle.luf_parse.specs.inner.Follow.{IsAssigned};
 ghost use Rattle.luf_parse.specs.inner.Parts.{ReadCount, ReadFor, ReadForStep};
 
-use crate::ParseErr;
 use crate::blocks::ended_block;
 use crate::expressions::{expr, exprs};
 use crate::names::names;
 use crate::tables::assigned;
 use crate::tokens::{eat, expect};
+use crate::{ParseErr, made};
 use luf_lex::{Cut, Sign, Tok, Word};
-use luf_tree::{Expr, Stat, StatKind};
+use luf_tree::{Expr, Stat};
 use sqlite_items::Boxed;
 use std::alloc::Global;
 
@@ -38,15 +38,7 @@ pub fn for_stat(alloc: Global, cut: &Cut, left: u32, at: u32, next: u32) -> Resu
     let (values, opener) = exprs(alloc, cut, left, from)?;
     let inside = expect(cut, opener, Tok::Word(Word::Do))?;
     let (body, to) = ended_block(alloc, cut, left, opener, inside)?;
-    Ok(Stat {
-        from: at,
-        to,
-        what: StatKind::ForIn {
-            names: Boxed::new(alloc, names)?,
-            values,
-            body,
-        },
-    })
+    made::for_in(alloc, at, to, names, values, body)
 }
 
 /// `'for' Name '=' exp ',' exp [',' exp] 'do' block 'end'` behind its `=`.
@@ -71,17 +63,7 @@ fn count_stat(
     let (step, opener) = for_step(alloc, cut, left, limit.to)?;
     let inside = expect(cut, opener, Tok::Word(Word::Do))?;
     let (body, to) = ended_block(alloc, cut, left, opener, inside)?;
-    Ok(Stat {
-        from: at,
-        to,
-        what: StatKind::For {
-            name,
-            first: Boxed::new(alloc, first)?,
-            limit: Boxed::new(alloc, limit)?,
-            step,
-            body,
-        },
-    })
+    made::count_stat(alloc, at, to, name, first, limit, step, body)
 }
 
 /// `[',' exp]`, and the place after it.

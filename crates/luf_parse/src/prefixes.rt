@@ -4,7 +4,7 @@ ghost use Rattle.luf_lex.specs.Tokens.{toks_of};
 ghost use Rattle.luf_lex.specs.declared.token.Sign.TheVariants as sign;
 ghost use Rattle.luf_tree.specs.declared.tree.Expr.{out-Expr};
 ghost use Rattle.luf_tree.specs.declared.tree.Args.{out-Args};
-ghost use Rattle.luf_tree.specs.Grammar.{IsToken, IsString, NoParenFollows, IsHead, IsParen, AreSuffixes, IsSuffix, IsArgs};
+ghost use Rattle.luf_tree.specs.Grammar.{expression, IsToken, IsString, NoParenFollows, IsHead, IsParen, AreSuffixes, IsSuffix, IsArgs};
 ghost use Rattle.luf_tree.specs.Level.{deepest, expr_levels, suffix_levels, args_levels};
 ghost use Rattle.luf_parse.specs.inner.Reads.{Found};
 ghost use Rattle.luf_parse.specs.inner.Shapes.{IsShaped, suffixed_shape, lone_args};
@@ -12,11 +12,11 @@ ghost use Rattle.luf_parse.specs.inner.Exact.{Alone, Refutes};
 ghost use Rattle.luf_parse.specs.inner.Follow.{NotString};
 ghost use Rattle.luf_parse.specs.inner.Parts.{ReadArgs, ReadHead, ReadListArgs, ReadLoneArg, ReadParen, ReadPrefix, ReadSuffix, ReadSuffixes};
 
-use crate::ParseErr;
 use crate::expressions::{expr, exprs};
 use crate::growing::Growing;
 use crate::tables::table;
 use crate::tokens::{begins_suffix, eat, enter, expect, take};
+use crate::{ParseErr, made};
 use luf_lex::{Cut, Sign, Tok};
 use luf_tree::{Args, Expr, ExprKind, Suffix};
 use sqlite_items::{Boxed, Items};
@@ -50,24 +50,32 @@ pub fn prefix(alloc: Global, cut: &Cut, left: u32, at: u32) -> Result<PrefixExpr
         return Ok(head);
     }
     let (found, calls, to) = suffixes(alloc, cut, left, head.expr.to)?;
+    suffixed(alloc, at, to, calls, head.expr, found)
+}
+
+/// A head with suffixes, the last of which makes a call or not.
+fn suffixed(
+    alloc: Global,
+    from: u32,
+    to: u32,
+    calls: bool,
+    head: Expr,
+    suffixes: Items<Suffix>,
+) -> Result<PrefixExpr, ParseErr>
+    ensures made { IfOk result (λ p. p ≡ record { shape = suffixed_shape calls; expr = expression from to (ExprKind.Suffixed head suffixes) }) }
+    ensures memory { IfErr result (λ e. e ≡ ParseErr.Memory) }
+{
     Ok(PrefixExpr {
-        shape: suffixed(calls),
+        shape: if calls { Shape::Call } else { Shape::Variable },
         expr: Expr {
-            from: at,
+            from,
             to,
             what: ExprKind::Suffixed {
-                head: Boxed::new(alloc, head.expr)?,
-                suffixes: found,
+                head: Boxed::new(alloc, head)?,
+                suffixes,
             },
         },
     })
-}
-
-// The shape of a head with suffixes.
-fn suffixed(calls: bool) -> Shape
-    ensures { result ≡ suffixed_shape calls }
-{
-    if calls { Shape::Call } else { Shape::Variable }
 }
 
 /// A name, or an expression in parentheses.
@@ -107,11 +115,7 @@ fn paren(alloc: Global, cut: &Cut, left: u32, at: u32) -> Result<Expr, ParseErr>
     let inner = enter(cut, left, at)?;
     let inside = expr(alloc, cut, inner, next, 1)?;
     let to = expect(cut, inside.to, Tok::Sign(Sign::RightParen))?;
-    Ok(Expr {
-        from: at,
-        to,
-        what: ExprKind::Paren(Boxed::new(alloc, inside)?),
-    })
+    made::paren(alloc, at, to, inside)
 }
 
 /// Suffixes, as many as there are, whether the last of them makes a call, and the place after it.

@@ -12,7 +12,6 @@ ghost use Rattle.luf_parse.specs.inner.Exact.{Alone, Refutes};
 ghost use Rattle.luf_parse.specs.inner.Follow.{begins_prefix};
 ghost use Rattle.luf_parse.specs.inner.Parts.{ReadArm, ReadArms, ReadDo, ReadElse, ReadFunctionStat, ReadGoto, ReadIf, ReadLabel, ReadLocal, ReadRepeat, ReadShort, ReadStat, ReadWhile};
 
-use crate::ParseErr;
 use crate::assignments::expr_stat;
 use crate::blocks::{block, ended_block, func_body};
 use crate::expressions::{expr, exprs};
@@ -20,6 +19,7 @@ use crate::growing::Growing;
 use crate::loops::for_stat;
 use crate::names::{declared, method, path};
 use crate::tokens::{eat, enter, expect, refusal};
+use crate::{ParseErr, made};
 use luf_lex::{Cut, Sign, Tok, Word};
 use luf_tree::{Arm, Block, Stat, StatKind};
 use sqlite_items::{Boxed, Items};
@@ -155,14 +155,7 @@ fn while_stat(alloc: Global, cut: &Cut, left: u32, at: u32, next: u32) -> Result
     let opener = test.to;
     let inside = expect(cut, opener, Tok::Word(Word::Do))?;
     let (body, to) = ended_block(alloc, cut, left, opener, inside)?;
-    Ok(Stat {
-        from: at,
-        to,
-        what: StatKind::While {
-            test: Boxed::new(alloc, test)?,
-            body,
-        },
-    })
+    made::while_stat(alloc, at, to, test, body)
 }
 
 /// `'repeat' block 'until' exp` behind its `repeat`.
@@ -178,14 +171,7 @@ fn repeat_stat(alloc: Global, cut: &Cut, left: u32, at: u32, next: u32) -> Resul
     let body = block(alloc, cut, inner, next)?;
     let from = expect(cut, body.to, Tok::Word(Word::Until))?;
     let test = expr(alloc, cut, left, from, 1)?;
-    Ok(Stat {
-        from: at,
-        to: test.to,
-        what: StatKind::Repeat {
-            body,
-            test: Boxed::new(alloc, test)?,
-        },
-    })
+    made::repeat_stat(alloc, at, body, test)
 }
 
 /// An `if` statement behind its `if`.
@@ -274,15 +260,7 @@ fn function_stat(alloc: Global, cut: &Cut, left: u32, at: u32, next: u32) -> Res
     let (path, dot) = path(alloc, cut, next)?;
     let (method, inside) = method(cut, dot)?;
     let body = func_body(alloc, cut, inner, inside)?;
-    Ok(Stat {
-        from: at,
-        to: body.to,
-        what: StatKind::Function {
-            path,
-            method,
-            body: Boxed::new(alloc, body)?,
-        },
-    })
+    made::function_stat(alloc, at, path, method, body)
 }
 
 /// `'local' 'function' Name body` or `'local' attnamelist ['=' explist]`, behind its `local`.
@@ -297,14 +275,7 @@ fn local_stat(alloc: Global, cut: &Cut, left: u32, at: u32, next: u32) -> Result
         let inner = enter(cut, left, next)?;
         let inside = expect(cut, name, Tok::Name)?;
         let body = func_body(alloc, cut, inner, inside)?;
-        return Ok(Stat {
-            from: at,
-            to: body.to,
-            what: StatKind::LocalFunction {
-                name,
-                body: Boxed::new(alloc, body)?,
-            },
-        });
+        return made::local_function(alloc, at, name, body);
     }
     let (names, end) = declared(alloc, cut, next)?;
     let Some(from) = eat(cut, end, Tok::Sign(Sign::Assign)) else {

@@ -13,9 +13,9 @@ use Rattle.luf_tree.proofs.LevelEquations.{step_of_levels}
 use Rattle.luf_parse.proofs.Joining.{joins_more, joins_last, joins_end, level_more, level_end}
 use Rattle.luf_parse.proofs.ExprParts.{made_block, made_body, made_args, string_arg_found, block_found, call_found, chain_found, dot_found, func_body_found, function_found, index_found, item_found, keyed_found, list_args_found, method_found, name_found, named_found, no_args_found, operand_found, operator_at, paren_found, power_found, prefix_found, return_nothing_found, return_values_found, simple_found, suffixed_found, table_arg_found, table_expr_found, table_found, unary_found, weaken, weaken_found}
 use Rattle.luf_parse.proofs.StatParts.{arm_found, ended_found, assign_found, call_shaped, do_found, else_found, for_found, for_in_found, for_step_found, function_stat_found, if_found, local_found, local_function_found, local_values_found, repeat_found, while_found}
-use Rattle.luf_parse.proofs.Exactness.{passes, refutes_by, refutes_form, refutes_first, refutes_next, refutes_triple, alone_form, alone_next, alone_is, alone_triple, alone_boxed, then_rest, ok_form, err_form, ahead_more, ahead_last, ahead_end, ahead_refutes, is_at, not_at, list_more, list_last}
-use Rattle.luf_parse.proofs.ExprForms.{operand_inside, unary_form, power_form, simple_inside, function_form, table_expr_form, leaf_only, prefixed_form, table_form, fields_form, fields_end, keyed_form, named_form, item_form, exprs_form, prefix_form, head_name, head_form, paren_form, suffixes_form, dot_form, index_form, method_form, call_form, args_list, args_lone, lone_string, lone_table, steps_form, operand_form, grown_end, grown_form, made_prefix}
-use Rattle.luf_parse.proofs.StatForms.{begins_word, count_made, expr_stat_form, short_form, func_body_form, block_form, stats_form, last_form, stats_end, return_form, arms_form, arm_form, else_form, for_step_form, variable_prefix, targets_last, targets_form}
+use Rattle.luf_parse.proofs.Exactness.{passes, refutes_by, refutes_form, refutes_first, refutes_next, refutes_triple, alone_form, alone_next, alone_is, alone_triple, alone_boxed, then_rest, ok_made, err_made, ok_form, err_form, ahead_more, ahead_last, ahead_end, ahead_refutes, is_at, not_at, list_more, list_last}
+use Rattle.luf_parse.proofs.ExprForms.{operand_inside, unary_form, power_form, simple_inside, function_form, table_expr_form, leaf_only, prefixed_form, table_form, fields_form, fields_end, keyed_form, named_form, item_form, exprs_form, prefix_form, head_name, head_form, paren_form, suffixes_form, dot_form, index_form, method_form, call_form, args_list, args_lone, lone_string, lone_table, steps_form, operand_form, grown_end, grown_form}
+use Rattle.luf_parse.proofs.StatForms.{begins_word, expr_stat_form, short_form, func_body_form, block_form, stats_form, last_form, stats_end, return_form, arms_form, arm_form, else_form, for_step_form, variable_prefix, targets_last, targets_form}
 use Rattle.luf_parse.specs.declared.prefixes.PrefixExpr.{PrefixExpr}
 use Rattle.luf_parse.specs.declared.prefixes.Shape.TheVariants.{Variable}
 use Rattle.luf_tree.specs.declared.tree.Args.{Args, roll-Args}
@@ -70,14 +70,17 @@ expressions::chain-returns-then-precedence_at-precedence-clause-ok t c =
     let h1 = c.in_ok-right.ensures in
     let n = h0.token.next in
     let t : IsToken (toks_of c.args.cut.now) c.loop-next.sign c.in-Some.field-0-0 c.in-Some.next = record { there = cc h0.token.there; next = omega (arith, h0.token.next, c.in-Some.next-is) } in
-    chain_found c.requires.low c.requires.first (joins_last (AreSteps (toks_of c.args.cut.now) c.args.precedence) _ _ _ _ _ _ c.loop-next.invariant.joins (c.exact.ensures ∙ c.in_ok-push.ensures.ok) (one_step t (operator_at c.args.precedence t c.loop-next.invariant.next) h1.ok.derived))
-    (omega arith) h1.ok.within (level_more step_levels _ _ _ _ c.loop-next.invariant.level (c.exact.ensures ∙ c.in_ok-push.ensures.ok) (omega (arith, step_of_levels c.loop-next.sign c.in_ok-right.right, h1.ok.level))) c.in_ok-new.ensures
+    ok_made _ c.chain.ensures.made (chain_found c.requires.low c.requires.first (joins_last (AreSteps (toks_of c.args.cut.now) c.args.precedence) _ _ _ _ _ _ c.loop-next.invariant.joins (c.exact.ensures ∙ c.in_ok-push.ensures.ok) (one_step t (operator_at c.args.precedence t c.loop-next.invariant.next) h1.ok.derived))
+    (omega arith) h1.ok.within (level_more step_levels _ _ _ _ c.loop-next.invariant.level (c.exact.ensures ∙ c.in_ok-push.ensures.ok) (omega (arith, step_of_levels c.loop-next.sign c.in_ok-right.right, h1.ok.level))))
 
 pub expressions::chain-returns-in_err-right-clause-none : goal.expressions::chain-returns-in_err-right-clause-none
 expressions::chain-returns-in_err-right-clause-none t c = passes _ c.from_residual.ensures.1 (refutes_first (ahead_refutes _ c.loop-next.invariant.ahead (refutes_form (steps_form c.requires.low c.in-Some.ensures.token) (refutes_first c.in_err-right.ensures.none))))
 
 pub expressions::chain-returns-then-precedence_at-precedence-clause-only : goal.expressions::chain-returns-then-precedence_at-precedence-clause-only
-expressions::chain-returns-then-precedence_at-precedence-clause-only t c = alone_next (ahead_last _ c.loop-next.invariant.ahead (c.exact.ensures ∙ c.in_ok-push.ensures.ok) (list_last (steps_form c.requires.low c.in-Some.ensures.token) c.in_ok-right.ensures.only (λ next h. let a = h.0 in omega (arith, c.precedence_at.ensures.value)))) (alone_is (ap (λ (b : Expr). expression c.args.at (out-Expr c.in_ok-right.right).to (expr.Chain b c.exact.result)) (sym c.in_ok-new.ensures)))
+expressions::chain-returns-then-precedence_at-precedence-clause-only t c = ok_made _ c.chain.ensures.made (alone_next (ahead_last _ c.loop-next.invariant.ahead (c.exact.ensures ∙ c.in_ok-push.ensures.ok) (list_last (steps_form c.requires.low c.in-Some.ensures.token) c.in_ok-right.ensures.only (λ next h. let a = h.0 in omega (arith, c.precedence_at.ensures.value)))) (λ y h. h))
+
+pub expressions::chain-returns-then-precedence_at-precedence-clause-none : goal.expressions::chain-returns-then-precedence_at-precedence-clause-none
+expressions::chain-returns-then-precedence_at-precedence-clause-none t c = err_made _ c.chain.ensures.memory
 
 pub expressions::operand-returns-then-is_unary-clause-ok : goal.expressions::operand-returns-then-is_unary-clause-ok
 expressions::operand-returns-then-is_unary-clause-ok t c =
@@ -85,7 +88,7 @@ expressions::operand-returns-then-is_unary-clause-ok t c =
     let h1 = c.in_ok-inner.ensures in
     let h2 = c.in_ok-operand.ensures in
     let t : IsToken (toks_of c.args.cut.now) c.args.at c.in-Some.tok c.in-Some.next = record { there = cc (h0.token.there, c.in-Some.tok-is); next = omega (arith, h0.token.next, c.in-Some.next-is) } in
-    unary_found t (cc (c.is_unary.ensures, c.if-is_unary.true)) h1.ok h2.ok c.in_ok-new.ensures
+    ok_made _ c.unary.ensures.made (unary_found t (cc (c.is_unary.ensures, c.if-is_unary.true)) h1.ok h2.ok)
 
 pub expressions::operand-returns-in_default-clause-none : goal.expressions::operand-returns-in_default-clause-none
 expressions::operand-returns-in_default-clause-none t c = record { token = c.refusal.ensures; nothing = λ known. operand_inside c.in_default.ensures.end }
@@ -97,7 +100,10 @@ pub expressions::operand-returns-in_err-operand-clause-none : goal.expressions::
 expressions::operand-returns-in_err-operand-clause-none t c = passes _ c.from_residual-in_err-operand.ensures.1 (refutes_form (unary_form c.in-Some.ensures.token (cc (c.is_unary.ensures, c.if-is_unary.true))) (refutes_next c.in_ok-inner.ensures.only (refutes_first c.in_err-operand.ensures.none)))
 
 pub expressions::operand-returns-then-is_unary-clause-only : goal.expressions::operand-returns-then-is_unary-clause-only
-expressions::operand-returns-then-is_unary-clause-only t c = alone_form (unary_form c.in-Some.ensures.token (cc (c.is_unary.ensures, c.if-is_unary.true))) (alone_next c.in_ok-inner.ensures.only (alone_next c.in_ok-operand.ensures.only (alone_is (ap (λ (b : Expr). expression c.args.at (out-Expr c.in_ok-operand.operand).to (expr.Unary b)) (sym c.in_ok-new.ensures)))))
+expressions::operand-returns-then-is_unary-clause-only t c = ok_made _ c.unary.ensures.made (alone_form (unary_form c.in-Some.ensures.token (cc (c.is_unary.ensures, c.if-is_unary.true))) (alone_next c.in_ok-inner.ensures.only (alone_next c.in_ok-operand.ensures.only (λ y h. h))))
+
+pub expressions::operand-returns-then-is_unary-clause-none : goal.expressions::operand-returns-then-is_unary-clause-none
+expressions::operand-returns-then-is_unary-clause-none t c = err_made _ c.unary.ensures.memory
 
 pub expressions::operand-returns-clause-only : goal.expressions::operand-returns-clause-only
 expressions::operand-returns-clause-only t c = ok_form _ (power_form c.in-Some.ensures.token (cc (c.is_unary.ensures, c.if-is_unary.false))) c.power.ensures.only
@@ -106,7 +112,7 @@ pub expressions::operand-returns-clause-none : goal.expressions::operand-returns
 expressions::operand-returns-clause-none t c = err_form _ (power_form c.in-Some.ensures.token (cc (c.is_unary.ensures, c.if-is_unary.false))) c.power.ensures.none
 
 pub expressions::power-returns-clause-ok : goal.expressions::power-returns-clause-ok
-expressions::power-returns-clause-ok t c = power_found c.in_ok-base.ensures.ok c.in-Some.ensures.token c.in_ok-inner.ensures.ok c.in_ok-exponent.ensures.ok c.in_ok-new.ensures c.in_ok-new-2.ensures
+expressions::power-returns-clause-ok t c = ok_made _ c.power.ensures.made (power_found c.in_ok-base.ensures.ok c.in-Some.ensures.token c.in_ok-inner.ensures.ok c.in_ok-exponent.ensures.ok)
 
 pub expressions::power-returns-in_default-clause-ok : goal.expressions::power-returns-in_default-clause-ok
 expressions::power-returns-in_default-clause-ok t c = simple_found c.in_ok-base.ensures.ok
@@ -118,7 +124,10 @@ pub expressions::power-returns-in_err-exponent-clause-none : goal.expressions::p
 expressions::power-returns-in_err-exponent-clause-none t c = passes _ c.from_residual-in_err-exponent.ensures.1 (refutes_next c.in_ok-base.ensures.only (refutes_form (λ y h. h.power _ c.in-Some.ensures.token) (refutes_next c.in_ok-inner.ensures.only (refutes_first c.in_err-exponent.ensures.none))))
 
 pub expressions::power-returns-clause-only : goal.expressions::power-returns-clause-only
-expressions::power-returns-clause-only t c = alone_next c.in_ok-base.ensures.only (alone_form (λ y h. h.power _ c.in-Some.ensures.token) (alone_next c.in_ok-inner.ensures.only (alone_next c.in_ok-exponent.ensures.only (alone_is (ap (λ (b : Expr). expression c.args.at (out-Expr c.in_ok-exponent.exponent).to (expr.Power b (out-Expr c.in_ok-base.base).to c.in_ok-exponent.exponent)) (sym c.in_ok-new.ensures) ∙ ap (λ (b : Expr). expression c.args.at (out-Expr c.in_ok-exponent.exponent).to (expr.Power c.in_ok-new.field-0 (out-Expr c.in_ok-base.base).to b)) (sym c.in_ok-new-2.ensures))))))
+expressions::power-returns-clause-only t c = ok_made _ c.power.ensures.made (alone_next c.in_ok-base.ensures.only (alone_form (λ y h. h.power _ c.in-Some.ensures.token) (alone_next c.in_ok-inner.ensures.only (alone_next c.in_ok-exponent.ensures.only (λ y h. h)))))
+
+pub expressions::power-returns-clause-none : goal.expressions::power-returns-clause-none
+expressions::power-returns-clause-none t c = err_made _ c.power.ensures.memory
 
 pub expressions::simple-returns-clause-ok : goal.expressions::simple-returns-clause-ok
 expressions::simple-returns-clause-ok t c = prefix_found c.in_ok-found.found.shape c.in_ok-found.ensures.ok c.in_ok-found.ensures.closed
@@ -156,7 +165,13 @@ pub expressions::simple-returns-then-is_at-clause-none : goal.expressions::simpl
 expressions::simple-returns-then-is_at-clause-none t c = err_form _ (table_expr_form (is_at _ c.is_at.ensures c.if-is_at.true)) c.table_expr.ensures.none
 
 pub expressions::function-returns-clause-ok : goal.expressions::function-returns-clause-ok
-expressions::function-returns-clause-ok t c = function_found c.requires.word c.in_ok-inner.ensures.ok c.in_ok-body.ensures.ok c.in_ok-new.ensures
+expressions::function-returns-clause-ok t c = ok_made _ c.function.ensures.made (function_found c.requires.word c.in_ok-inner.ensures.ok c.in_ok-body.ensures.ok)
+
+pub expressions::function-returns-clause-only : goal.expressions::function-returns-clause-only
+expressions::function-returns-clause-only t c = ok_made _ c.function.ensures.made (alone_next c.in_ok-inner.ensures.only (alone_next c.in_ok-body.ensures.only (λ y h. h)))
+
+pub expressions::function-returns-clause-none : goal.expressions::function-returns-clause-none
+expressions::function-returns-clause-none t c = err_made _ c.function.ensures.memory
 
 pub expressions::function-returns-in_err-inner-clause-none : goal.expressions::function-returns-in_err-inner-clause-none
 expressions::function-returns-in_err-inner-clause-none t c = passes _ c.from_residual.ensures.1 (refutes_first c.in_err-inner.ensures.none)
@@ -283,7 +298,7 @@ pub tables::keyed-returns-clause-only : goal.tables::keyed-returns-clause-only
 tables::keyed-returns-clause-only t c = alone_next c.in_ok-inner.ensures.only (alone_next c.in_ok-key.ensures.only (alone_next c.in_ok-close.ensures.only (alone_next c.in_ok-from.ensures.only (alone_next c.in_ok-value.ensures.only (alone_boxed (λ (b : Expr). (field.Keyed b c.in_ok-value.value, (out-Expr c.in_ok-value.value).to)) c.in_ok-new.ensures)))))
 
 pub prefixes::prefix-returns-clause-ok : goal.prefixes::prefix-returns-clause-ok
-prefixes::prefix-returns-clause-ok t c = suffixed_found c.in_ok-found.calls c.suffixed.result c.suffixed.ensures c.in_ok-head.ensures.ok c.in_ok-head.ensures.head c.in_ok-found.ensures.ok c.in_ok-new.ensures
+prefixes::prefix-returns-clause-ok t c = ok_made _ c.suffixed.ensures.made (suffixed_found c.in_ok-found.calls c.in_ok-head.ensures.ok c.in_ok-head.ensures.head c.in_ok-found.ensures.ok)
 
 pub prefixes::prefix-returns-in_err-head-clause-none : goal.prefixes::prefix-returns-in_err-head-clause-none
 prefixes::prefix-returns-in_err-head-clause-none t c = passes _ c.from_residual.ensures.1 (refutes_form prefix_form (refutes_first c.in_err-head.ensures.none))
@@ -295,7 +310,10 @@ pub prefixes::prefix-returns-in_err-found-clause-none : goal.prefixes::prefix-re
 prefixes::prefix-returns-in_err-found-clause-none t c = passes _ c.from_residual-in_err-found.ensures.1 (refutes_form prefix_form (refutes_next c.in_ok-head.ensures.only (refutes_form (λ y h. h.more (cc (c.begins_suffix.ensures, c.if-not-begins_suffix.false))) (refutes_first c.in_err-found.ensures.none))))
 
 pub prefixes::prefix-returns-clause-only : goal.prefixes::prefix-returns-clause-only
-prefixes::prefix-returns-clause-only t c = alone_form prefix_form (alone_next c.in_ok-head.ensures.only (alone_form (λ y h. h.more (cc (c.begins_suffix.ensures, c.if-not-begins_suffix.false))) (alone_next c.in_ok-found.ensures.only (alone_is (made_prefix _ _ c.suffixed.ensures c.in_ok-new.ensures)))))
+prefixes::prefix-returns-clause-only t c = ok_made _ c.suffixed.ensures.made (alone_form prefix_form (alone_next c.in_ok-head.ensures.only (alone_form (λ y h. h.more (cc (c.begins_suffix.ensures, c.if-not-begins_suffix.false))) (alone_next c.in_ok-found.ensures.only (λ y h. h)))))
+
+pub prefixes::prefix-returns-clause-none : goal.prefixes::prefix-returns-clause-none
+prefixes::prefix-returns-clause-none t c = err_made _ c.suffixed.ensures.memory
 
 pub prefixes::head-returns-clause-head : goal.prefixes::head-returns-clause-head
 prefixes::head-returns-clause-head t c = paren_head c.in_ok-expr.ensures.ok.derived
@@ -313,7 +331,7 @@ pub prefixes::head-returns-clause-only : goal.prefixes::head-returns-clause-only
 prefixes::head-returns-clause-only t c = alone_form (head_form c.in_default.ensures.other) (alone_next c.in_ok-expr.ensures.only (λ y h. h))
 
 pub prefixes::paren-returns-clause-ok : goal.prefixes::paren-returns-clause-ok
-prefixes::paren-returns-clause-ok t c = paren_found c.in_ok-next.ensures.token c.in_ok-inner.ensures.ok c.in_ok-inside.ensures.ok c.in_ok-to.ensures.token c.in_ok-to.ensures.within c.in_ok-new.ensures
+prefixes::paren-returns-clause-ok t c = ok_made _ c.paren.ensures.made (paren_found c.in_ok-next.ensures.token c.in_ok-inner.ensures.ok c.in_ok-inside.ensures.ok c.in_ok-to.ensures.token c.in_ok-to.ensures.within)
 
 pub prefixes::paren-returns-in_err-next-clause-none : goal.prefixes::paren-returns-in_err-next-clause-none
 prefixes::paren-returns-in_err-next-clause-none t c = passes _ c.from_residual.ensures.1 (refutes_form paren_form (refutes_first c.in_err-next.ensures.none))
@@ -328,7 +346,10 @@ pub prefixes::paren-returns-in_err-to-clause-none : goal.prefixes::paren-returns
 prefixes::paren-returns-in_err-to-clause-none t c = passes _ c.from_residual-in_err-to.ensures.1 (refutes_form paren_form (refutes_next c.in_ok-next.ensures.only (refutes_next c.in_ok-inner.ensures.only (refutes_next c.in_ok-inside.ensures.only (refutes_first c.in_err-to.ensures.none)))))
 
 pub prefixes::paren-returns-clause-only : goal.prefixes::paren-returns-clause-only
-prefixes::paren-returns-clause-only t c = alone_form paren_form (alone_next c.in_ok-next.ensures.only (alone_next c.in_ok-inner.ensures.only (alone_next c.in_ok-inside.ensures.only (alone_next c.in_ok-to.ensures.only (alone_is (ap (λ (b : Expr). expression c.args.at c.in_ok-to.to (expr.Paren b)) (sym c.in_ok-new.ensures)))))))
+prefixes::paren-returns-clause-only t c = ok_made _ c.paren.ensures.made (alone_form paren_form (alone_next c.in_ok-next.ensures.only (alone_next c.in_ok-inner.ensures.only (alone_next c.in_ok-inside.ensures.only (alone_next c.in_ok-to.ensures.only (λ y h. h))))))
+
+pub prefixes::paren-returns-clause-none : goal.prefixes::paren-returns-clause-none
+prefixes::paren-returns-clause-none t c = err_made _ c.paren.ensures.memory
 
 pub prefixes::suffixes-loop-found-preserved : goal.prefixes::suffixes-loop-found-preserved
 prefixes::suffixes-loop-found-preserved t c =
@@ -592,22 +613,28 @@ pub statements::do_stat-returns-clause-only : goal.statements::do_stat-returns-c
 statements::do_stat-returns-clause-only t c = alone_next c.in_ok-body.ensures.only ((λ y h. h))
 
 pub statements::while_stat-returns-clause-ok : goal.statements::while_stat-returns-clause-ok
-statements::while_stat-returns-clause-ok t c = while_found c.requires.word c.in_ok-test.ensures.ok c.in_ok-inside.ensures.token c.in_ok-body.ensures.ok c.in_ok-new.ensures
+statements::while_stat-returns-clause-ok t c = ok_made _ c.while_stat.ensures.made (while_found c.requires.word c.in_ok-test.ensures.ok c.in_ok-inside.ensures.token c.in_ok-body.ensures.ok)
 
 pub statements::while_stat-returns-in_err-body-clause-none : goal.statements::while_stat-returns-in_err-body-clause-none
 statements::while_stat-returns-in_err-body-clause-none t c = passes _ c.from_residual-in_err-body.ensures.1 (refutes_next c.in_ok-test.ensures.only (refutes_next c.in_ok-inside.ensures.only (refutes_first c.in_err-body.ensures.none)))
 
 pub statements::while_stat-returns-clause-only : goal.statements::while_stat-returns-clause-only
-statements::while_stat-returns-clause-only t c = alone_next c.in_ok-test.ensures.only (alone_next c.in_ok-inside.ensures.only (alone_next c.in_ok-body.ensures.only (alone_boxed (λ (b : Expr). statement c.args.at c.in_ok-body.to (stat.While b c.in_ok-body.body)) c.in_ok-new.ensures)))
+statements::while_stat-returns-clause-only t c = ok_made _ c.while_stat.ensures.made (alone_next c.in_ok-test.ensures.only (alone_next c.in_ok-inside.ensures.only (alone_next c.in_ok-body.ensures.only (λ y h. h))))
+
+pub statements::while_stat-returns-clause-none : goal.statements::while_stat-returns-clause-none
+statements::while_stat-returns-clause-none t c = err_made _ c.while_stat.ensures.memory
 
 pub statements::repeat_stat-returns-clause-ok : goal.statements::repeat_stat-returns-clause-ok
-statements::repeat_stat-returns-clause-ok t c = repeat_found c.requires.word c.in_ok-inner.ensures.ok c.in_ok-body.ensures.ok c.in_ok-from.ensures.token c.in_ok-test.ensures.ok c.in_ok-new.ensures
+statements::repeat_stat-returns-clause-ok t c = ok_made _ c.repeat_stat.ensures.made (repeat_found c.requires.word c.in_ok-inner.ensures.ok c.in_ok-body.ensures.ok c.in_ok-from.ensures.token c.in_ok-test.ensures.ok)
 
 pub statements::repeat_stat-returns-in_err-inner-clause-none : goal.statements::repeat_stat-returns-in_err-inner-clause-none
 statements::repeat_stat-returns-in_err-inner-clause-none t c = passes _ c.from_residual.ensures.1 (refutes_first c.in_err-inner.ensures.none)
 
 pub statements::repeat_stat-returns-clause-only : goal.statements::repeat_stat-returns-clause-only
-statements::repeat_stat-returns-clause-only t c = alone_next c.in_ok-inner.ensures.only (alone_next c.in_ok-body.ensures.only (alone_next c.in_ok-from.ensures.only (alone_next c.in_ok-test.ensures.only (alone_boxed (λ (b : Expr). statement c.args.at (out-Expr c.in_ok-test.test).to (stat.Repeat c.in_ok-body.body b)) c.in_ok-new.ensures))))
+statements::repeat_stat-returns-clause-only t c = ok_made _ c.repeat_stat.ensures.made (alone_next c.in_ok-inner.ensures.only (alone_next c.in_ok-body.ensures.only (alone_next c.in_ok-from.ensures.only (alone_next c.in_ok-test.ensures.only (λ y h. h)))))
+
+pub statements::repeat_stat-returns-clause-none : goal.statements::repeat_stat-returns-clause-none
+statements::repeat_stat-returns-clause-none t c = err_made _ c.repeat_stat.ensures.memory
 
 pub statements::if_stat-returns-clause-ok : goal.statements::if_stat-returns-clause-ok
 statements::if_stat-returns-clause-ok t c = if_found c.requires.word c.in_ok-arms.ensures.ok c.in_ok-last.ensures.ok c.in_ok-to.ensures.token c.in_ok-to.ensures.within
@@ -674,19 +701,22 @@ pub statements::else_block-returns-clause-only : goal.statements::else_block-ret
 statements::else_block-returns-clause-only t c = alone_form (else_form c.in-Some.ensures.token) (alone_next c.in_ok-inner.ensures.only (alone_next c.in_ok-body.ensures.only (alone_boxed (λ (b : Block). (Some b, (out-Block c.in_ok-body.body).to)) c.in_ok-new.ensures)))
 
 pub statements::function_stat-returns-clause-ok : goal.statements::function_stat-returns-clause-ok
-statements::function_stat-returns-clause-ok t c = function_stat_found c.requires.word c.in_ok-inner.ensures.ok c.in_ok-path.ensures.ok c.in_ok-method.ensures.ok c.in_ok-body.ensures.ok c.in_ok-new.ensures
+statements::function_stat-returns-clause-ok t c = ok_made _ c.function_stat.ensures.made (function_stat_found c.requires.word c.in_ok-inner.ensures.ok c.in_ok-path.ensures.ok c.in_ok-method.ensures.ok c.in_ok-body.ensures.ok)
 
 pub statements::function_stat-returns-in_err-inner-clause-none : goal.statements::function_stat-returns-in_err-inner-clause-none
 statements::function_stat-returns-in_err-inner-clause-none t c = passes _ c.from_residual.ensures.1 (refutes_first c.in_err-inner.ensures.none)
 
 pub statements::function_stat-returns-clause-only : goal.statements::function_stat-returns-clause-only
-statements::function_stat-returns-clause-only t c = alone_next c.in_ok-inner.ensures.only (alone_next c.in_ok-path.ensures.only (alone_next c.in_ok-method.ensures.only (alone_next c.in_ok-body.ensures.only (alone_boxed (λ (b : FuncBody). statement c.args.at (out-FuncBody c.in_ok-body.body).to (stat.Function c.in_ok-path.path c.in_ok-method.method b)) c.in_ok-new.ensures))))
+statements::function_stat-returns-clause-only t c = ok_made _ c.function_stat.ensures.made (alone_next c.in_ok-inner.ensures.only (alone_next c.in_ok-path.ensures.only (alone_next c.in_ok-method.ensures.only (alone_next c.in_ok-body.ensures.only (λ y h. h)))))
+
+pub statements::function_stat-returns-clause-none : goal.statements::function_stat-returns-clause-none
+statements::function_stat-returns-clause-none t c = err_made _ c.function_stat.ensures.memory
 
 pub statements::local_stat-returns-clause-ok : goal.statements::local_stat-returns-clause-ok
 statements::local_stat-returns-clause-ok t c = local_values_found c.requires.word c.in_ok-names.ensures.ok c.in-Some-eat.ensures.token c.in_ok-values.ensures.ok
 
 pub statements::local_stat-returns-in-Some-clause-ok : goal.statements::local_stat-returns-in-Some-clause-ok
-statements::local_stat-returns-in-Some-clause-ok t c = local_function_found c.requires.word c.in-Some.ensures.token c.in_ok-inside.ensures.token c.in_ok-inner.ensures.ok c.in_ok-body.ensures.ok c.in_ok-new.ensures
+statements::local_stat-returns-in-Some-clause-ok t c = ok_made _ c.local_function.ensures.made (local_function_found c.requires.word c.in-Some.ensures.token c.in_ok-inside.ensures.token c.in_ok-inner.ensures.ok c.in_ok-body.ensures.ok)
 
 pub statements::local_stat-returns-in_default-eat-clause-ok : goal.statements::local_stat-returns-in_default-eat-clause-ok
 statements::local_stat-returns-in_default-eat-clause-ok t c = local_found c.requires.word c.in_ok-names.ensures.ok c.new.ensures
@@ -701,7 +731,10 @@ pub statements::local_stat-returns-in_err-body-clause-none : goal.statements::lo
 statements::local_stat-returns-in_err-body-clause-none t c = passes _ c.from_residual-in_err-body.ensures.1 (refutes_form (λ y h. h.function _ c.in-Some.ensures.token) (refutes_next c.in_ok-inner.ensures.only (refutes_next c.in_ok-inside.ensures.only (refutes_first c.in_err-body.ensures.none))))
 
 pub statements::local_stat-returns-in-Some-clause-only : goal.statements::local_stat-returns-in-Some-clause-only
-statements::local_stat-returns-in-Some-clause-only t c = alone_form (λ y h. h.function _ c.in-Some.ensures.token) (alone_next c.in_ok-inner.ensures.only (alone_next c.in_ok-inside.ensures.only (alone_next c.in_ok-body.ensures.only (alone_boxed (λ (b : FuncBody). statement c.args.at (out-FuncBody c.in_ok-body.body).to (stat.LocalFunction c.in-Some.name b)) c.in_ok-new.ensures))))
+statements::local_stat-returns-in-Some-clause-only t c = ok_made _ c.local_function.ensures.made (alone_form (λ y h. h.function _ c.in-Some.ensures.token) (alone_next c.in_ok-inner.ensures.only (alone_next c.in_ok-inside.ensures.only (alone_next c.in_ok-body.ensures.only (λ y h. h)))))
+
+pub statements::local_stat-returns-in-Some-clause-none : goal.statements::local_stat-returns-in-Some-clause-none
+statements::local_stat-returns-in-Some-clause-none t c = err_made _ c.local_function.ensures.memory
 
 pub statements::local_stat-returns-in_err-values-clause-none : goal.statements::local_stat-returns-in_err-values-clause-none
 statements::local_stat-returns-in_err-values-clause-none t c = passes _ c.from_residual-in_err-values.ensures.1 (refutes_form (λ y h. h.named c.in_default.ensures.other) (refutes_next c.in_ok-names.ensures.only (refutes_form (λ y h. h.values _ c.in-Some-eat.ensures.token) (refutes_first c.in_err-values.ensures.none))))
@@ -710,17 +743,20 @@ pub statements::local_stat-returns-clause-only : goal.statements::local_stat-ret
 statements::local_stat-returns-clause-only t c = alone_form (λ y h. h.named c.in_default.ensures.other) (alone_next c.in_ok-names.ensures.only (alone_form (λ y h. h.values _ c.in-Some-eat.ensures.token) (alone_next c.in_ok-values.ensures.only (λ y h. h))))
 
 pub loops::for_stat-returns-clause-ok : goal.loops::for_stat-returns-clause-ok
-loops::for_stat-returns-clause-ok t c = for_in_found c.requires.word c.in_ok-names.ensures.ok c.in_ok-from.ensures.token c.in_ok-values.ensures.ok c.in_ok-inside.ensures.token c.in_ok-body.ensures.ok c.in_ok-new.ensures
+loops::for_stat-returns-clause-ok t c = ok_made _ c.for_in.ensures.made (for_in_found c.requires.word c.in_ok-names.ensures.ok c.in_ok-from.ensures.token c.in_ok-values.ensures.ok c.in_ok-inside.ensures.token c.in_ok-body.ensures.ok)
 
 pub loops::for_stat-returns-in_err-body-clause-none : goal.loops::for_stat-returns-in_err-body-clause-none
 loops::for_stat-returns-in_err-body-clause-none t c = passes _ c.from_residual-in_err-body.ensures.1 (refutes_form (λ y h. h.names c.in_default.ensures.none) (refutes_next c.in_ok-names.ensures.only (refutes_next c.in_ok-from.ensures.only (refutes_next c.in_ok-values.ensures.only (refutes_next c.in_ok-inside.ensures.only (refutes_first c.in_err-body.ensures.none))))))
 
 pub loops::for_stat-returns-clause-only : goal.loops::for_stat-returns-clause-only
-loops::for_stat-returns-clause-only t c = alone_form (λ y h. h.names c.in_default.ensures.none) (alone_next c.in_ok-names.ensures.only (alone_next c.in_ok-from.ensures.only (alone_next c.in_ok-values.ensures.only (alone_next c.in_ok-inside.ensures.only (alone_next c.in_ok-body.ensures.only (alone_boxed (λ (b : List ℕ). statement c.args.at c.in_ok-body.to (stat.ForIn b c.in_ok-values.values c.in_ok-body.body)) c.in_ok-new.ensures))))))
+loops::for_stat-returns-clause-only t c = ok_made _ c.for_in.ensures.made (alone_form (λ y h. h.names c.in_default.ensures.none) (alone_next c.in_ok-names.ensures.only (alone_next c.in_ok-from.ensures.only (alone_next c.in_ok-values.ensures.only (alone_next c.in_ok-inside.ensures.only (alone_next c.in_ok-body.ensures.only (λ y h. h)))))))
+
+pub loops::for_stat-returns-clause-none : goal.loops::for_stat-returns-clause-none
+loops::for_stat-returns-clause-none t c = err_made _ c.for_in.ensures.memory
 
 pub loops::count_stat-returns-clause-ok : goal.loops::count_stat-returns-clause-ok
 loops::count_stat-returns-clause-ok t c =
-    for_found c.requires.word c.requires.name.name c.requires.name.sign c.in_ok-first.ensures.ok c.in_ok-second.ensures.token c.in_ok-limit.ensures.ok c.in_ok-step.ensures.ok c.in_ok-inside.ensures.token c.in_ok-body.ensures.ok c.in_ok-new.ensures c.in_ok-new-2.ensures
+    ok_made _ c.count_stat.ensures.made (for_found c.requires.word c.requires.name.name c.requires.name.sign c.in_ok-first.ensures.ok c.in_ok-second.ensures.token c.in_ok-limit.ensures.ok c.in_ok-step.ensures.ok c.in_ok-inside.ensures.token c.in_ok-body.ensures.ok)
 
 pub loops::count_stat-returns-in_err-inside-clause-none : goal.loops::count_stat-returns-in_err-inside-clause-none
 loops::count_stat-returns-in_err-inside-clause-none t c = passes _ c.from_residual-in_err-inside.ensures.1 (refutes_next c.in_ok-first.ensures.only (refutes_next c.in_ok-second.ensures.only (refutes_next c.in_ok-limit.ensures.only (refutes_next c.in_ok-step.ensures.only (refutes_first c.in_err-inside.ensures.none)))))
@@ -729,7 +765,10 @@ pub loops::count_stat-returns-in_err-body-clause-none : goal.loops::count_stat-r
 loops::count_stat-returns-in_err-body-clause-none t c = passes _ c.from_residual-in_err-body.ensures.1 (refutes_next c.in_ok-first.ensures.only (refutes_next c.in_ok-second.ensures.only (refutes_next c.in_ok-limit.ensures.only (refutes_next c.in_ok-step.ensures.only (refutes_next c.in_ok-inside.ensures.only (refutes_first c.in_err-body.ensures.none))))))
 
 pub loops::count_stat-returns-clause-only : goal.loops::count_stat-returns-clause-only
-loops::count_stat-returns-clause-only t c = alone_next c.in_ok-first.ensures.only (alone_next c.in_ok-second.ensures.only (alone_next c.in_ok-limit.ensures.only (alone_next c.in_ok-step.ensures.only (alone_next c.in_ok-inside.ensures.only (alone_next c.in_ok-body.ensures.only (alone_is (count_made c.args.at c.in_ok-body.to c.args.name c.in_ok-step.step c.in_ok-body.body c.in_ok-new.ensures c.in_ok-new-2.ensures)))))))
+loops::count_stat-returns-clause-only t c = ok_made _ c.count_stat.ensures.made (alone_next c.in_ok-first.ensures.only (alone_next c.in_ok-second.ensures.only (alone_next c.in_ok-limit.ensures.only (alone_next c.in_ok-step.ensures.only (alone_next c.in_ok-inside.ensures.only (alone_next c.in_ok-body.ensures.only (λ y h. h)))))))
+
+pub loops::count_stat-returns-clause-none : goal.loops::count_stat-returns-clause-none
+loops::count_stat-returns-clause-none t c = err_made _ c.count_stat.ensures.memory
 
 pub loops::for_step-returns-clause-ok : goal.loops::for_step-returns-clause-ok
 loops::for_step-returns-clause-ok t c = for_step_found c.in-Some.ensures.token c.in_ok-step.ensures.ok c.in_ok-new.ensures
