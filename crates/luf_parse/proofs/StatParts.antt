@@ -6,7 +6,7 @@ use Rattle.luf_lex.specs.declared.token.Tok.TheVariants.{Name, Word, Sign}
 use Rattle.luf_lex.specs.declared.token.Word.TheVariants as word
 use Rattle.luf_lex.specs.declared.token.Sign.TheVariants as sign
 use Rattle.luf_tree.specs.declared.tree.Declared.{Declared}
-use Rattle.luf_tree.specs.declared.tree.Block.{Block}
+use Rattle.luf_tree.specs.declared.tree.Block.{Block, out-Block}
 use Rattle.luf_tree.specs.declared.tree.StatKind.TheVariants as stat
 use Rattle.luf_tree.specs.declared.tree.Arm.{Arm, roll-Arm}
 use Rattle.luf_tree.specs.declared.tree.FuncBody.{FuncBody}

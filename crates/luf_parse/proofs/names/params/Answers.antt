@@ -32,7 +32,7 @@ returns-in-Some-clause-ok c =
 
 pub returns-then-not-is_at-clause-ok : goal.returns-then-not-is_at-clause-ok
 returns-then-not-is_at-clause-ok c =
-    record { derived = nothing (λ names. AreParams (toks_of c.args.cut.now) c.args.at c.args.at names false) _ c.new-2.ensures no_params; forward = omega arith; within = omega arith; level = omega arith }
+    record { derived = nothing (λ names. AreParams (toks_of c.args.cut.now) c.args.at c.args.at names false) _ c.new-then-not-is_at.ensures no_params; forward = omega arith; within = omega arith; level = omega arith }
 
 pub returns-in_default-eat-clause-ok : goal.returns-in_default-eat-clause-ok
 returns-in_default-eat-clause-ok c =
