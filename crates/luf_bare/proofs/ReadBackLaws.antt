@@ -20,7 +20,7 @@ use Rattle.luf_bare.proofs.Reading.{Stand, none, kept, lost, read_block, some_is
 use Rattle.luf_bare.proofs.Written.{tell_block}
 use Rattle.luf_bare.proofs.Significant as s
 use Rattle.luf_bare.proofs.Significant.{AreSignificant, in_order, keep_block}
-use Rattle.luf_bare.proofs.SpelledWords.{Each, all_none, all_more, each_at, each_block}
+use Rattle.luf_bare.proofs.EachWritten.{Each, all_none, all_more, each_at, each_block}
 use Rattle.luf_bare.proofs.BareLevels.{block_levels}
 use Rattle.luf_bare.proofs.BareMap.{block_after}
 
