@@ -5,6 +5,6 @@ pub mod Reading
 pub mod Written
 pub mod Significant
 pub mod Ranks
-pub mod SpelledWords
+pub mod EachWritten
 pub mod ReadBackLaws
 pub mod Examples

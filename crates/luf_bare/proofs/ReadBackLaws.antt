@@ -6,7 +6,7 @@ use Rattle.std.proofs.Math.Seq.{get_or-append_seam}
 use Rattle.std.specs.Option.{option_map}
 use Rattle.luf_lex.specs.declared.token.Tok.{Tok}
 use Rattle.luf_tree.specs.declared.tree.Chunk.{Chunk}
-use Rattle.luf_tree.specs.Grammar.{IsToken, IsClosed, IsBlock, IsChunk}
+use Rattle.luf_tree.specs.Grammar.{IsToken, NoParenFollows, IsBlock, IsChunk}
 use Rattle.luf_tree.specs.SyntaxMap.{ShapeMap, map_block}
 use Rattle.luf_tree.specs.SyntaxOf.{syntax_of}
 use Rattle.luf_tree.specs.Level.{levels_of_block}
@@ -20,13 +20,13 @@ use Rattle.luf_bare.proofs.Reading.{Stand, none, kept, lost, read_block, some_is
 use Rattle.luf_bare.proofs.Written.{tell_block}
 use Rattle.luf_bare.proofs.Significant as s
 use Rattle.luf_bare.proofs.Significant.{AreSignificant, in_order, keep_block}
-use Rattle.luf_bare.proofs.SpelledWords.{Each, all_none, all_more, each_at, each_block}
+use Rattle.luf_bare.proofs.EachWritten.{Each, all_none, all_more, each_at, each_block}
 use Rattle.luf_bare.proofs.BareLevels.{block_levels}
 use Rattle.luf_bare.proofs.BareMap.{block_after}
 
 -- ---- a text is read
 
-end_closed : (toks : List Tok) (i : ℕ) → i ≡ length toks → IsClosed toks i
+end_closed : (toks : List Tok) (i : ℕ) → i ≡ length toks → NoParenFollows toks i
 end_closed toks i last paren = omega (arith, slice_get_within toks i _ paren)
 
 module _ {X : Type 0} (kind : X → Tok) (added : X → Bool) (other : X) where

@@ -17,7 +17,7 @@ use Rattle.luf_tree.specs.declared.tree.Args.{Args}
 use Rattle.luf_tree.specs.declared.tree.Field.{Field}
 use Rattle.luf_tree.specs.Operator.{binary_precedence}
 use Rattle.luf_tree.specs.Grammar as g
-use Rattle.luf_tree.specs.Grammar.{At, IsToken, IsString, IsClosed, expression, statement, AreNames, AreParams, IsAttribute, AreDeclared, IsPath, IsMethod, IsSemicolon, IsExpr, AreSteps, IsOperand, IsSimple, IsPrefix, IsVariable, IsCall, IsParen, IsHead, AreSuffixes, IsSuffix, IsArgs, AreExprs, IsTable, AreFields, IsField, IsFuncBody, IsBlock, AreStats, IsReturn, IsStat, AreTargets, IsArm, AreArms, IsElse, IsForStep, IsChunk}
+use Rattle.luf_tree.specs.Grammar.{At, IsToken, IsString, NoParenFollows, expression, statement, AreNames, AreParams, IsAttribute, AreDeclared, IsPath, IsMethod, IsSemicolon, IsExpr, AreSteps, IsOperand, IsSimple, IsPrefix, IsVariable, IsCall, IsParen, IsHead, AreSuffixes, IsSuffix, IsArgs, AreExprs, IsTable, AreFields, IsField, IsFuncBody, IsBlock, AreStats, IsReturn, IsStat, AreTargets, IsArm, AreArms, IsElse, IsForStep, IsChunk}
 use Rattle.luf_tree.specs.Syntax as syntax
 use Rattle.luf_tree.specs.TokenSyntax as tokens
 use Rattle.luf_tree.specs.SyntaxOf.{expressions_of, operations_of, suffixes_of, fields_of, statements_of, arms_of, optional_expression_of, optional_block_of, declared_of, first_of_path, rest_of_path, syntax_of_expr, syntax_of_block, syntax_of_stat, syntax_of_field, syntax_of_suffix, syntax_of_step, syntax_of_arm, syntax_of_args, syntax_of_body}
@@ -27,7 +27,7 @@ use Rattle.luf_bare.specs.Writing.{opens}
 use Rattle.luf_bare.proofs.Ends.{between_none, between_one, place_before, exprs_end, field_end}
 use Rattle.luf_bare.specs.Lone.{is_lone, is_lone_item}
 use Rattle.luf_bare.specs.Dropped.{between, if_dropped, dropped_expression, dropped_for_step, dropped_expressions, dropped_operation, dropped_operations, dropped_suffix, dropped_suffixes, dropped_arguments, dropped_field, dropped_fields, dropped_statement, dropped_statements, dropped_arm, dropped_arms, dropped_block, dropped_else, dropped_body}
-use Rattle.luf_bare.specs.Texts.{IsShut, IsStringWord, WritesNames, WritesParams, WritesAttribute, WritesDeclared, WritesPath, WritesMethod, WritesSemicolon, WritesExpr, WritesSteps, WritesOperand, WritesSimple, WritesPrefix, WritesVariable, WritesCall, WritesParen, WritesHead, WritesSuffixes, WritesSuffix, WritesArgs, WritesExprs, WritesTable, WritesFields, WritesField, WritesFuncBody, WritesBlock, WritesStats, WritesReturn, WritesStat, WritesTargets, WritesArm, WritesArms, WritesElse, WritesForStep}
+use Rattle.luf_bare.specs.Texts.{NoParenFirst, IsStringWord, WritesNames, WritesParams, WritesAttribute, WritesDeclared, WritesPath, WritesMethod, WritesSemicolon, WritesExpr, WritesSteps, WritesOperand, WritesSimple, WritesPrefix, WritesVariable, WritesCall, WritesParen, WritesHead, WritesSuffixes, WritesSuffix, WritesArgs, WritesExprs, WritesTable, WritesFields, WritesField, WritesFuncBody, WritesBlock, WritesStats, WritesReturn, WritesStat, WritesTargets, WritesArm, WritesArms, WritesElse, WritesForStep}
 use Rattle.luf_tree.proofs.SyntaxEquations.{nil_syntax, true_syntax, false_syntax, number_syntax, string_syntax, vararg_syntax, name_syntax, paren_syntax, function_syntax, table_syntax, unary_syntax, chain_syntax, power_syntax, suffixed_syntax, empty_syntax, local_syntax, assign_syntax, call_syntax, do_syntax, while_syntax, repeat_syntax, if_syntax, for_syntax, for_in_syntax, function_stat_syntax, local_function_syntax, label_syntax, goto_syntax, break_syntax, return_syntax, item_syntax, named_syntax, keyed_syntax, dot_syntax, index_syntax, call_suffix_syntax, method_syntax, step_of_syntax, arm_of_syntax, args_of_syntax, block_of_syntax, body_of_syntax}
 
 -- a part of the tree that is derived, with this bare form, and with these dropped tokens up to those behind it
@@ -98,7 +98,7 @@ some_opens (Some t) = opens t
 never : true ≡ false → ⊥
 never e = cc
 
-not_open : {toks : List Tok} {i j : ℕ} {t : Tok} → IsToken toks i t j → opens t ≡ false → IsClosed toks i
+not_open : {toks : List Tok} {i j : ℕ} {t : Tok} → IsToken toks i t j → opens t ≡ false → NoParenFollows toks i
 not_open token no_paren paren = never (sym (ap some_opens paren) ∙ ap some_opens token.there ∙ no_paren)
 
 abbrev tok_or : Tok → Option Tok → Tok
@@ -195,10 +195,10 @@ module _ {X : Type 0} (kind : X → Tok) (added : X → Bool) (toks : List Tok) 
   as_one (inl is) token = inl (this is token)
   as_one (inr is) token = inr (this is token)
 
-  shut_by : {x : X} {words : List X} {i k : ℕ} {t : Tok} {ds after : List ℕ} → kind x ≡ t → opens t ≡ false → Stand (x ∷ words) i k ds after → IsClosed toks i
+  shut_by : {x : X} {words : List X} {i k : ℕ} {t : Tok} {ds after : List ℕ} → kind x ≡ t → opens t ≡ false → Stand (x ∷ words) i k ds after → NoParenFollows toks i
   shut_by is no_paren stand = not_open ((head_token stand).token) (ap opens is ∙ no_paren)
 
-  shut_by_one : {x : X} {words : List X} {i k : ℕ} {t u : Tok} {ds after : List ℕ} → kind x ≡ t ⊎ kind x ≡ u → opens t ≡ false → opens u ≡ false → Stand (x ∷ words) i k ds after → IsClosed toks i
+  shut_by_one : {x : X} {words : List X} {i k : ℕ} {t u : Tok} {ds after : List ℕ} → kind x ≡ t ⊎ kind x ≡ u → opens t ≡ false → opens u ≡ false → Stand (x ∷ words) i k ds after → NoParenFollows toks i
   shut_by_one (inl is) first_no other_no stand = shut_by is first_no stand
   shut_by_one (inr is) first_no other_no stand = shut_by is other_no stand
 
@@ -347,26 +347,26 @@ module _ {X : Type 0} (kind : X → Tok) (added : X → Bool) (toks : List Tok) 
   read_semicolon w.no_semicolon none = g.no_semicolon
   read_semicolon (w.a_semicolon is) stand = g.a_semicolon (this is.0 (last_lost is.1 stand).token)
 
-  semicolon_shut : {words : List X} {i k : ℕ} {ds after : List ℕ} → WritesSemicolon kind added words → Stand words i k ds after → IsClosed toks k → IsClosed toks i
+  semicolon_shut : {words : List X} {i k : ℕ} {ds after : List ℕ} → WritesSemicolon kind added words → Stand words i k ds after → NoParenFollows toks k → NoParenFollows toks i
   semicolon_shut w.no_semicolon none c = c
   semicolon_shut (w.a_semicolon is) stand c = shut_by is.0 refl stand
 
-  words_shut : (words : List X) {i k : ℕ} {ds after : List ℕ} → IsShut kind added words → Stand words i k ds after → IsClosed toks k → IsClosed toks i
+  words_shut : (words : List X) {i k : ℕ} {ds after : List ℕ} → NoParenFirst kind added words → Stand words i k ds after → NoParenFollows toks k → NoParenFollows toks i
   words_shut [] shut none c = c
   words_shut (x ∷ words) shut stand c = λ paren. shut (some_is (sym (head_token stand).token.there ∙ paren))
 
-  else_shut : {b : syntax.OptionalBlock (Bare X)} {words : List X} {i k : ℕ} {ds after : List ℕ} → WritesElse kind added b words → Stand words i k ds after → IsClosed toks k → IsClosed toks i
+  else_shut : {b : syntax.OptionalBlock (Bare X)} {words : List X} {i k : ℕ} {ds after : List ℕ} → WritesElse kind added b words → Stand words i k ds after → NoParenFollows toks k → NoParenFollows toks i
   else_shut w.no_else none c = c
   else_shut (w.an_else is body) stand c = shut_by is.0 refl stand
 
-  for_step_shut : {b : syntax.OptionalExpression (Bare X)} {words : List X} {i k : ℕ} {ds after : List ℕ} → WritesForStep kind added b words → Stand words i k ds after → IsClosed toks k → IsClosed toks i
+  for_step_shut : {b : syntax.OptionalExpression (Bare X)} {words : List X} {i k : ℕ} {ds after : List ℕ} → WritesForStep kind added b words → Stand words i k ds after → NoParenFollows toks k → NoParenFollows toks i
   for_step_shut w.no_for_step none c = c
   for_step_shut (w.a_for_step is e) stand c = shut_by is.0 refl stand
 
-  operator_shut : {x : X} {words : List X} {m i k : ℕ} {ds after : List ℕ} → binary_precedence (kind x) ≡ m → 0 < m → Stand (x ∷ words) i k ds after → IsClosed toks i
+  operator_shut : {x : X} {words : List X} {m i k : ℕ} {ds after : List ℕ} → binary_precedence (kind x) ≡ m → 0 < m → Stand (x ∷ words) i k ds after → NoParenFollows toks i
   operator_shut {x} is pos stand = λ paren. no_operator (some_is (sym (head_token stand).token.there ∙ paren)) is pos
 
-  steps_shut : {m : ℕ} {b : syntax.Operations (Bare X)} {words : List X} {i k : ℕ} {ds after : List ℕ} → WritesSteps kind added m b words → 0 < m → Stand words i k ds after → IsClosed toks i
+  steps_shut : {m : ℕ} {b : syntax.Operations (Bare X)} {words : List X} {i k : ℕ} {ds after : List ℕ} → WritesSteps kind added m b words → 0 < m → Stand words i k ds after → NoParenFollows toks i
   steps_shut (w.one_step is e) pos stand = operator_shut is.0 pos stand
   steps_shut (w.more_steps is e rest) pos stand = operator_shut is.0 pos stand
 
@@ -380,7 +380,7 @@ module _ {X : Type 0} (kind : X → Tok) (added : X → Bool) (toks : List Tok) 
   is_lone_tree es same is = sym (lone_of (expressions_of (map syntax_of_expr es))) ∙ ap is_lone same ∙ is
 
   mutual
-    read_expr : {n : ℕ} {b : syntax.Expression (Bare X)} {words : List X} {i k : ℕ} {ds after : List ℕ} → WritesExpr kind added n b words → Stand words i k ds after → IsClosed toks k → Is (IsExpr toks n i k) bare_expr drop_expr b ds after
+    read_expr : {n : ℕ} {b : syntax.Expression (Bare X)} {words : List X} {i k : ℕ} {ds after : List ℕ} → WritesExpr kind added n b words → Stand words i k ds after → NoParenFollows toks k → Is (IsExpr toks n i k) bare_expr drop_expr b ds after
     read_expr {i} {k} {after} (w.operand_expr w_e) stand c =
         let e = read_operand w_e stand c in
         made _ (g.operand_expr e.derived) (λ t. (e.same t)) e.drops
@@ -390,7 +390,7 @@ module _ {X : Type 0} (kind : X → Tok) (added : X → Bool) (toks : List Tok) 
         let rest = read_steps w_rest pos p_e.right c in
         made _ (g.chain_expr pos le e.derived rest.derived) (ap (bare_expression (words_of says)) (chain_syntax i k e.tree rest.tree) ∙ (λ t. syntax.chain tt (e.same t) (rest.same t))) (ap (λ z. dropped_expression z after) (chain_syntax i k e.tree rest.tree) ∙ (ap (drop_expr e.tree) rest.drops ∙ e.drops))
 
-    read_steps : {m : ℕ} {b : syntax.Operations (Bare X)} {words : List X} {i k : ℕ} {ds after : List ℕ} → WritesSteps kind added m b words → 0 < m → Stand words i k ds after → IsClosed toks k → Is (AreSteps toks m i k) bare_steps drop_steps b ds after
+    read_steps : {m : ℕ} {b : syntax.Operations (Bare X)} {words : List X} {i k : ℕ} {ds after : List ℕ} → WritesSteps kind added m b words → 0 < m → Stand words i k ds after → NoParenFollows toks k → Is (AreSteps toks m i k) bare_steps drop_steps b ds after
     read_steps {i} {k} {after} (w.one_step h_x w_e) pos stand c =
         let f_x = first h_x.1 stand in
         let e = read_expr w_e f_x.rest c in
@@ -402,7 +402,7 @@ module _ {X : Type 0} (kind : X → Tok) (added : X → Bool) (toks : List Tok) 
         let rest = read_steps w_rest pos p_e.right c in
         made _ (g.more_steps f_x.token h_x.0 e.derived rest.derived) (ap (λ z. syntax.more_operations (bare_operation (words_of says) z) (bare_steps rest.tree)) (step_of_syntax i e.tree) ∙ (λ t. syntax.more_operations (syntax.operation (f_x.told t) (e.same t)) (rest.same t))) (ap (λ z. dropped_operation z (drop_steps rest.tree after)) (step_of_syntax i e.tree) ∙ (ap (drop_expr e.tree) rest.drops ∙ e.drops))
 
-    read_operand : {b : syntax.Expression (Bare X)} {words : List X} {i k : ℕ} {ds after : List ℕ} → WritesOperand kind added b words → Stand words i k ds after → IsClosed toks k → Is (IsOperand toks i k) bare_expr drop_expr b ds after
+    read_operand : {b : syntax.Expression (Bare X)} {words : List X} {i k : ℕ} {ds after : List ℕ} → WritesOperand kind added b words → Stand words i k ds after → NoParenFollows toks k → Is (IsOperand toks i k) bare_expr drop_expr b ds after
     read_operand {i} {k} {after} (w.unary_operand h_x w_e) stand c =
         let f_x = first h_x.1 stand in
         let e = read_operand w_e f_x.rest c in
@@ -417,7 +417,7 @@ module _ {X : Type 0} (kind : X → Tok) (added : X → Bool) (toks : List Tok) 
         let e = read_simple w_e stand c in
         made _ (g.simple_operand e.derived) (λ t. (e.same t)) e.drops
 
-    read_simple : {b : syntax.Expression (Bare X)} {words : List X} {i k : ℕ} {ds after : List ℕ} → WritesSimple kind added b words → Stand words i k ds after → IsClosed toks k → Is (IsSimple toks i k) bare_expr drop_expr b ds after
+    read_simple : {b : syntax.Expression (Bare X)} {words : List X} {i k : ℕ} {ds after : List ℕ} → WritesSimple kind added b words → Stand words i k ds after → NoParenFollows toks k → Is (IsSimple toks i k) bare_expr drop_expr b ds after
     read_simple {i} {k} {after} (w.nil_simple h_x) stand c =
         let f_x = last h_x.1 stand in
         made _ (g.nil_simple (this h_x.0 f_x.token)) (ap (bare_expression (words_of says)) (nil_syntax i k) ∙ (λ t. syntax.nil_value tt)) (ap (λ z. dropped_expression z after) (nil_syntax i k) ∙ f_x.none_lost)
@@ -545,7 +545,7 @@ module _ {X : Type 0} (kind : X → Tok) (added : X → Bool) (toks : List Tok) 
         let fields = read_table w_fields stand in
         made _ (g.table_args fields.derived) (ap (bare_arguments (words_of says)) (args_of_syntax i k false (expression i k (expr.Table fields.tree) ∷ [])) ∙ ap (λ z. syntax.arguments tt true (syntax.more_expressions (bare_expression (words_of says) z) syntax.no_expressions)) (table_syntax i k fields.tree) ∙ (λ t. syntax.arguments tt true (syntax.more_expressions (syntax.table tt (fields.same t)) syntax.no_expressions))) (ap (λ z. dropped_arguments z after) (args_of_syntax i k false (expression i k (expr.Table fields.tree) ∷ [])) ∙ ap (λ z. dropped_expression z after) (table_syntax i k fields.tree) ∙ fields.drops)
 
-    read_exprs : {b : syntax.Expressions (Bare X)} {words : List X} {i k : ℕ} {ds after : List ℕ} → WritesExprs kind added b words → Stand words i k ds after → IsClosed toks k → Is (AreExprs toks i k) bare_exprs drop_exprs b ds after
+    read_exprs : {b : syntax.Expressions (Bare X)} {words : List X} {i k : ℕ} {ds after : List ℕ} → WritesExprs kind added b words → Stand words i k ds after → NoParenFollows toks k → Is (AreExprs toks i k) bare_exprs drop_exprs b ds after
     read_exprs {i} {k} {after} (w.one_expr w_e) stand c =
         let e = read_expr w_e stand c in
         made _ (g.one_expr e.derived) (λ t. syntax.more_expressions (e.same t) syntax.no_expressions) e.drops
@@ -564,7 +564,7 @@ module _ {X : Type 0} (kind : X → Tok) (added : X → Bool) (toks : List Tok) 
         let f_r = last h_r.1 p_fields.right in
         made _ (g.table (this h_l.0 f_l.token) fields.derived (this h_r.0 f_r.token)) (λ t. (fields.same t)) (ap (λ z. drop_fields z fields.tree after) (place_before f_r.token.next) ∙ (ap ((drop_fields p_fields.place) fields.tree) f_r.none_lost ∙ fields.drops))
 
-    read_fields : {b : syntax.Fields (Bare X)} {words : List X} {i k : ℕ} {ds after : List ℕ} → WritesFields kind added b words → Stand words i k ds after → IsClosed toks k → Is (AreFields toks i k) bare_all_fields (drop_fields k) b ds after
+    read_fields : {b : syntax.Fields (Bare X)} {words : List X} {i k : ℕ} {ds after : List ℕ} → WritesFields kind added b words → Stand words i k ds after → NoParenFollows toks k → Is (AreFields toks i k) bare_all_fields (drop_fields k) b ds after
     read_fields w.no_fields none c =
         made _ g.no_fields (λ t. syntax.no_fields) refl
     read_fields {i} {k} {after} (w.last_field w_f) stand c =
@@ -577,7 +577,7 @@ module _ {X : Type 0} (kind : X → Tok) (added : X → Bool) (toks : List Tok) 
         let fields = read_fields w_fields f_c.rest c in
         made _ (g.more_fields f.derived (as_one h_c.0 f_c.token) fields.derived) (λ t. syntax.more_fields (f.same t) (fields.same t)) (ap (λ z. drop_field f.tree (between z k (drop_fields k fields.tree after))) (field_end f.derived) ∙ ap (drop_field f.tree) (between_one p_f.place k (drop_fields k fields.tree after) (omega (arith, f_c.token.next, stand_le f_c.rest)) ∙ ap (λ z. p_f.place ∷ z) fields.drops ∙ f_c.is_lost) ∙ f.drops)
 
-    read_field : {b : syntax.Field (Bare X)} {words : List X} {i k : ℕ} {ds after : List ℕ} → WritesField kind added b words → Stand words i k ds after → IsClosed toks k → Is (IsField toks i k) bare_a_field drop_field b ds after
+    read_field : {b : syntax.Field (Bare X)} {words : List X} {i k : ℕ} {ds after : List ℕ} → WritesField kind added b words → Stand words i k ds after → NoParenFollows toks k → Is (IsField toks i k) bare_a_field drop_field b ds after
     read_field {i} {k} {after} (w.keyed_field {key_words} h_l w_key h_r h_a w_value) stand c =
         let f_l = first h_l.1 stand in
         let p_key = part key_words _ f_l.rest in
@@ -606,12 +606,12 @@ module _ {X : Type 0} (kind : X → Tok) (added : X → Bool) (toks : List Tok) 
         let f_z = last h_z.1 p_body.right in
         made _ (g.func_body (this h_l.0 f_l.token) params.derived (this h_r.0 f_r.token) body.derived (this h_z.0 f_z.token)) (ap (bare_function_body (words_of says)) (body_of_syntax i k params.tree vararg body.tree) ∙ (λ t. syntax.function_body tt (params.same t) vararg (body.same t))) (ap (λ z. dropped_body z after) (body_of_syntax i k params.tree vararg body.tree) ∙ ((ap (drop_block body.tree) f_z.none_lost ∙ body.drops) ∙ params.drops))
 
-    pub read_block : {b : syntax.Block (Bare X)} {words : List X} {i k : ℕ} {ds after : List ℕ} → WritesBlock kind added b words → Stand words i k ds after → IsClosed toks k → Is (IsBlock toks i k) bare_a_block drop_block b ds after
+    pub read_block : {b : syntax.Block (Bare X)} {words : List X} {i k : ℕ} {ds after : List ℕ} → WritesBlock kind added b words → Stand words i k ds after → NoParenFollows toks k → Is (IsBlock toks i k) bare_a_block drop_block b ds after
     read_block {i} {k} {after} (w.block w_stats) stand c =
         let stats = read_stats w_stats stand c in
         made _ (g.block stats.derived) (ap (bare_block (words_of says)) (block_of_syntax i k stats.tree) ∙ (λ t. syntax.block tt (stats.same t))) (ap (λ z. dropped_block z after) (block_of_syntax i k stats.tree) ∙ stats.drops)
 
-    read_stats : {b : syntax.Statements (Bare X)} {words : List X} {i k : ℕ} {ds after : List ℕ} → WritesStats kind added b words → Stand words i k ds after → IsClosed toks k → Is (AreStats toks i k) bare_stats drop_stats b ds after
+    read_stats : {b : syntax.Statements (Bare X)} {words : List X} {i k : ℕ} {ds after : List ℕ} → WritesStats kind added b words → Stand words i k ds after → NoParenFollows toks k → Is (AreStats toks i k) bare_stats drop_stats b ds after
     read_stats w.no_stats none c =
         made _ g.no_stats (λ t. syntax.no_statements) refl
     read_stats {i} {k} {after} (w.last_stat w_s) stand c =
@@ -627,7 +627,7 @@ module _ {X : Type 0} (kind : X → Tok) (added : X → Bool) (toks : List Tok) 
         let stats = read_stats w_stats p_s.right c in
         made _ (g.more_stats s.derived stats.derived) (λ t. before (s.same t) (stats.same t)) (ap (drop_stat s.tree) stats.drops ∙ s.drops)
 
-    read_return : {b : syntax.Statement (Bare X)} {words : List X} {i k : ℕ} {ds after : List ℕ} → WritesReturn kind added b words → Stand words i k ds after → IsClosed toks k → Is (IsReturn toks i k) bare_stat drop_stat (Some b) ds after
+    read_return : {b : syntax.Statement (Bare X)} {words : List X} {i k : ℕ} {ds after : List ℕ} → WritesReturn kind added b words → Stand words i k ds after → NoParenFollows toks k → Is (IsReturn toks i k) bare_stat drop_stat (Some b) ds after
     read_return {i} {k} {after} (w.return_nothing h_x w_y) stand c =
         let f_x = first h_x.1 stand in
         made _ (g.return_nothing (this h_x.0 f_x.token) (read_semicolon w_y f_x.rest)) (ap (bare_statement (words_of says)) (return_syntax i k []) ∙ (λ t. Some (syntax.return_statement tt syntax.no_expressions))) (ap (λ z. dropped_statement z after) (return_syntax i k []) ∙ ap (λ z. between z k after) (sym f_x.token.next) ∙ semicolon_drops w_y f_x.rest)
@@ -637,7 +637,7 @@ module _ {X : Type 0} (kind : X → Tok) (added : X → Bool) (toks : List Tok) 
         let es = read_exprs w_es p_es.left (semicolon_shut w_y p_es.right c) in
         made _ (g.return_values (this h_x.0 f_x.token) es.derived (read_semicolon w_y p_es.right)) (ap (bare_statement (words_of says)) (return_syntax i k es.tree) ∙ (λ t. Some (syntax.return_statement tt (es.same t)))) (ap (λ z. dropped_statement z after) (return_syntax i k es.tree) ∙ ap (λ z. drop_exprs es.tree (between z k after)) (exprs_end (i + 1) es.derived) ∙ ap (drop_exprs es.tree) (semicolon_drops w_y p_es.right) ∙ es.drops)
 
-    read_stat : {b : syntax.Statement (Bare X)} {words : List X} {i k : ℕ} {ds after : List ℕ} → WritesStat kind added b words → Stand words i k ds after → IsClosed toks k → Is (IsStat toks i k) bare_stat drop_stat (Some b) ds after
+    read_stat : {b : syntax.Statement (Bare X)} {words : List X} {i k : ℕ} {ds after : List ℕ} → WritesStat kind added b words → Stand words i k ds after → NoParenFollows toks k → Is (IsStat toks i k) bare_stat drop_stat (Some b) ds after
     read_stat {i} {k} {after} (w.local_stat h_x w_declared) stand c =
         let f_x = first h_x.1 stand in
         let declared = read_declared w_declared f_x.rest in
@@ -754,7 +754,7 @@ module _ {X : Type 0} (kind : X → Tok) (added : X → Bool) (toks : List Tok) 
         let targets = read_targets w_targets f_c.rest in
         made _ (g.more_targets e.derived (this h_c.0 f_c.token) targets.derived) (λ t. syntax.more_expressions (e.same t) (targets.same t)) (ap (drop_expr e.tree) targets.drops ∙ e.drops)
 
-    read_arm : {b : syntax.Arm (Bare X)} {words : List X} {i k : ℕ} {ds after : List ℕ} → WritesArm kind added b words → Stand words i k ds after → IsClosed toks k → Is (IsArm toks i k) bare_an_arm drop_arm b ds after
+    read_arm : {b : syntax.Arm (Bare X)} {words : List X} {i k : ℕ} {ds after : List ℕ} → WritesArm kind added b words → Stand words i k ds after → NoParenFollows toks k → Is (IsArm toks i k) bare_an_arm drop_arm b ds after
     read_arm {i} {k} {after} (w.arm {e_words} w_e h_x w_body) stand c =
         let p_e = part e_words _ stand in
         let e = read_expr w_e p_e.left (shut_by h_x.0 refl p_e.right) in
@@ -762,7 +762,7 @@ module _ {X : Type 0} (kind : X → Tok) (added : X → Bool) (toks : List Tok) 
         let body = read_block w_body f_x.rest c in
         made _ (g.arm e.derived (this h_x.0 f_x.token) body.derived) (ap (bare_arm (words_of says)) (arm_of_syntax e.tree body.tree) ∙ (λ t. syntax.arm (e.same t) (body.same t))) (ap (λ z. dropped_arm z after) (arm_of_syntax e.tree body.tree) ∙ (ap (drop_expr e.tree) body.drops ∙ e.drops))
 
-    read_arms : {b : syntax.Arms (Bare X)} {words : List X} {i k : ℕ} {ds after : List ℕ} → WritesArms kind added b words → Stand words i k ds after → IsClosed toks k → Is (AreArms toks i k) bare_all_arms drop_arms b ds after
+    read_arms : {b : syntax.Arms (Bare X)} {words : List X} {i k : ℕ} {ds after : List ℕ} → WritesArms kind added b words → Stand words i k ds after → NoParenFollows toks k → Is (AreArms toks i k) bare_all_arms drop_arms b ds after
     read_arms {i} {k} {after} (w.one_arm w_head) stand c =
         let head = read_arm w_head stand c in
         made _ (g.one_arm head.derived) (λ t. syntax.more_arms (head.same t) syntax.no_arms) head.drops
@@ -773,7 +773,7 @@ module _ {X : Type 0} (kind : X → Tok) (added : X → Bool) (toks : List Tok) 
         let arms = read_arms w_arms f_x.rest c in
         made _ (g.more_arms head.derived (this h_x.0 f_x.token) arms.derived) (λ t. syntax.more_arms (head.same t) (arms.same t)) (ap (drop_arm head.tree) arms.drops ∙ head.drops)
 
-    read_else : {b : syntax.OptionalBlock (Bare X)} {words : List X} {i k : ℕ} {ds after : List ℕ} → WritesElse kind added b words → Stand words i k ds after → IsClosed toks k → Is (IsElse toks i k) bare_else drop_else b ds after
+    read_else : {b : syntax.OptionalBlock (Bare X)} {words : List X} {i k : ℕ} {ds after : List ℕ} → WritesElse kind added b words → Stand words i k ds after → NoParenFollows toks k → Is (IsElse toks i k) bare_else drop_else b ds after
     read_else w.no_else none c =
         made _ g.no_else (λ t. syntax.no_block) refl
     read_else {i} {k} {after} (w.an_else h_x w_body) stand c =
@@ -781,7 +781,7 @@ module _ {X : Type 0} (kind : X → Tok) (added : X → Bool) (toks : List Tok) 
         let body = read_block w_body f_x.rest c in
         made _ (g.an_else (this h_x.0 f_x.token) body.derived) (λ t. syntax.a_block (body.same t)) body.drops
 
-    read_for_step : {b : syntax.OptionalExpression (Bare X)} {words : List X} {i k : ℕ} {ds after : List ℕ} → WritesForStep kind added b words → Stand words i k ds after → IsClosed toks k → Is (IsForStep toks i k) bare_for_step drop_for_step b ds after
+    read_for_step : {b : syntax.OptionalExpression (Bare X)} {words : List X} {i k : ℕ} {ds after : List ℕ} → WritesForStep kind added b words → Stand words i k ds after → NoParenFollows toks k → Is (IsForStep toks i k) bare_for_step drop_for_step b ds after
     read_for_step w.no_for_step none c =
         made _ g.no_for_step (λ t. syntax.no_expression) refl
     read_for_step {i} {k} {after} (w.a_for_step h_c w_e) stand c =

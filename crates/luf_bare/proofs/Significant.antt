@@ -17,7 +17,7 @@ use Rattle.luf_tree.specs.declared.tree.Suffix.{Suffix}
 use Rattle.luf_tree.specs.declared.tree.Args.{Args}
 use Rattle.luf_tree.specs.declared.tree.Field.{Field}
 use Rattle.luf_tree.specs.Grammar as g
-use Rattle.luf_tree.specs.Grammar.{At, IsToken, IsString, IsClosed, expression, statement, AreNames, AreParams, IsAttribute, AreDeclared, IsPath, IsMethod, IsSemicolon, IsExpr, AreSteps, IsOperand, IsSimple, IsPrefix, IsVariable, IsCall, IsParen, IsHead, AreSuffixes, IsSuffix, IsArgs, AreExprs, IsTable, AreFields, IsField, IsFuncBody, IsBlock, AreStats, IsReturn, IsStat, AreTargets, IsArm, AreArms, IsElse, IsForStep, IsChunk}
+use Rattle.luf_tree.specs.Grammar.{At, IsToken, IsString, NoParenFollows, expression, statement, AreNames, AreParams, IsAttribute, AreDeclared, IsPath, IsMethod, IsSemicolon, IsExpr, AreSteps, IsOperand, IsSimple, IsPrefix, IsVariable, IsCall, IsParen, IsHead, AreSuffixes, IsSuffix, IsArgs, AreExprs, IsTable, AreFields, IsField, IsFuncBody, IsBlock, AreStats, IsReturn, IsStat, AreTargets, IsArm, AreArms, IsElse, IsForStep, IsChunk}
 use Rattle.luf_tree.specs.Syntax as syntax
 use Rattle.luf_tree.specs.TokenSyntax as tokens
 use Rattle.luf_tree.specs.TokenSyntax.{from_to}

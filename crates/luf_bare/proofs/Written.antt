@@ -18,7 +18,7 @@ use Rattle.luf_tree.specs.declared.tree.Args.{Args}
 use Rattle.luf_tree.specs.declared.tree.Field.{Field}
 use Rattle.luf_tree.specs.Operator.{binary_precedence, is_unary}
 use Rattle.luf_tree.specs.Grammar as g
-use Rattle.luf_tree.specs.Grammar.{At, IsToken, IsString, IsClosed, expression, statement, AreNames, AreParams, IsAttribute, AreDeclared, IsPath, IsMethod, IsSemicolon, IsExpr, AreSteps, IsOperand, IsSimple, IsPrefix, IsVariable, IsCall, IsParen, IsHead, AreSuffixes, IsSuffix, IsArgs, AreExprs, IsTable, AreFields, IsField, IsFuncBody, IsBlock, AreStats, IsReturn, IsStat, AreTargets, IsArm, AreArms, IsElse, IsForStep, IsChunk}
+use Rattle.luf_tree.specs.Grammar.{At, IsToken, IsString, NoParenFollows, expression, statement, AreNames, AreParams, IsAttribute, AreDeclared, IsPath, IsMethod, IsSemicolon, IsExpr, AreSteps, IsOperand, IsSimple, IsPrefix, IsVariable, IsCall, IsParen, IsHead, AreSuffixes, IsSuffix, IsArgs, AreExprs, IsTable, AreFields, IsField, IsFuncBody, IsBlock, AreStats, IsReturn, IsStat, AreTargets, IsArm, AreArms, IsElse, IsForStep, IsChunk}
 use Rattle.luf_tree.specs.Syntax as syntax
 use Rattle.luf_tree.specs.TokenSyntax as tokens
 use Rattle.luf_tree.specs.TokenSyntax.{from_to}
@@ -28,7 +28,7 @@ use Rattle.luf_bare.specs.Writing.{opens, guarded, guarded_if, separated, enclos
 use Rattle.luf_tree.specs.SyntaxOf.{expressions_of, operations_of, suffixes_of, fields_of, statements_of, arms_of, optional_expression_of, optional_block_of, declared_of, first_of_path, rest_of_path, syntax_of_expr, syntax_of_block, syntax_of_stat, syntax_of_field, syntax_of_suffix, syntax_of_step, syntax_of_arm, syntax_of_args, syntax_of_body}
 use Rattle.luf_bare.specs.Bare.{Bare, Worded, words_of, words_at, before, bare_declared, bare_expression, bare_optional_expression, bare_expressions, bare_operations, bare_suffix, bare_suffixes, bare_arguments, bare_field, bare_fields, bare_statement, bare_statements, bare_arm, bare_arms, bare_block, bare_optional_block, bare_function_body, chosen_declared, chosen_expression, chosen_optional_expression, chosen_expressions, chosen_operations, chosen_suffix, chosen_suffixes, chosen_arguments, chosen_field, chosen_fields, chosen_statement, chosen_statements, chosen_arm, chosen_arms, chosen_block, chosen_optional_block, chosen_function_body}
 use Rattle.luf_bare.specs.Texts as w
-use Rattle.luf_bare.specs.Texts.{IsShut, IsStringWord, WritesNames, WritesParams, WritesAttribute, WritesDeclared, WritesPath, WritesMethod, WritesSemicolon, WritesExpr, WritesSteps, WritesOperand, WritesSimple, WritesPrefix, WritesVariable, WritesCall, WritesParen, WritesHead, WritesSuffixes, WritesSuffix, WritesArgs, WritesExprs, WritesTable, WritesFields, WritesField, WritesFuncBody, WritesBlock, WritesStats, WritesReturn, WritesStat, WritesTargets, WritesArm, WritesArms, WritesElse, WritesForStep}
+use Rattle.luf_bare.specs.Texts.{NoParenFirst, IsStringWord, WritesNames, WritesParams, WritesAttribute, WritesDeclared, WritesPath, WritesMethod, WritesSemicolon, WritesExpr, WritesSteps, WritesOperand, WritesSimple, WritesPrefix, WritesVariable, WritesCall, WritesParen, WritesHead, WritesSuffixes, WritesSuffix, WritesArgs, WritesExprs, WritesTable, WritesFields, WritesField, WritesFuncBody, WritesBlock, WritesStats, WritesReturn, WritesStat, WritesTargets, WritesArm, WritesArms, WritesElse, WritesForStep}
 use Rattle.luf_tree.proofs.SyntaxEquations.{nil_syntax, true_syntax, false_syntax, number_syntax, string_syntax, vararg_syntax, name_syntax, paren_syntax, function_syntax, table_syntax, unary_syntax, chain_syntax, power_syntax, suffixed_syntax, empty_syntax, local_syntax, assign_syntax, call_syntax, do_syntax, while_syntax, repeat_syntax, if_syntax, for_syntax, for_in_syntax, function_stat_syntax, local_function_syntax, label_syntax, goto_syntax, break_syntax, return_syntax, item_syntax, named_syntax, keyed_syntax, dot_syntax, index_syntax, call_suffix_syntax, method_syntax, step_of_syntax, arm_of_syntax, args_of_syntax, block_of_syntax, body_of_syntax}
 
 never : true ≡ false → ⊥
@@ -349,19 +349,19 @@ module _ {X : Type 0} (kind : X → Tok) (added : X → Bool) (put add : Tok →
   after_guard_stats true words rest told = guard_stats words rest told
   after_guard_stats false words rest told = told
 
-  guard_if_shut : (x : X) (words rest : List X) (paren : Bool) → opens (kind x) ≡ paren → IsShut kind added (guarded_if kind put addition trails paren (x ∷ words) ++ rest)
+  guard_if_shut : (x : X) (words rest : List X) (paren : Bool) → opens (kind x) ≡ paren → NoParenFirst kind added (guarded_if kind put addition trails paren (x ∷ words) ++ rest)
   guard_if_shut x words rest true is = λ open_paren. never (sym (ap opens open_paren) ∙ ap opens ((adds (Sign sign.Semicolon)).0))
   guard_if_shut x words rest false is = λ open_paren. never (sym (ap opens open_paren) ∙ is)
 
-  guard_shut : (words rest : List X) → IsShut kind added rest → IsShut kind added (guarded kind put addition trails words ++ rest)
+  guard_shut : (words rest : List X) → NoParenFirst kind added rest → NoParenFirst kind added (guarded kind put addition trails words ++ rest)
   guard_shut [] rest shut = shut
   guard_shut (x ∷ words) rest shut = guard_if_shut x words rest (opens (kind x)) refl
 
-  before_shut : (s : Option (syntax.Statement (Worded tokens.Span X))) (rest : syntax.Statements (Worded tokens.Span X)) → IsShut kind added (written_statements kind put addition trails true rest) → IsShut kind added (written_statements kind put addition trails true (before s rest))
+  before_shut : (s : Option (syntax.Statement (Worded tokens.Span X))) (rest : syntax.Statements (Worded tokens.Span X)) → NoParenFirst kind added (written_statements kind put addition trails true rest) → NoParenFirst kind added (written_statements kind put addition trails true (before s rest))
   before_shut None rest shut = shut
   before_shut (Some s) rest shut = guard_shut (written_statement kind put addition trails s) (written_statements kind put addition trails true rest) shut
 
-  later_shut : (ss : tokens.Statements) → IsShut kind added (text_statements true ss)
+  later_shut : (ss : tokens.Statements) → NoParenFirst kind added (text_statements true ss)
   later_shut syntax.no_statements = tt
   later_shut (syntax.more_statements first rest) = before_shut (chosen_statement (words_at says) encloses first) (chosen_statements (words_at says) encloses rest) (later_shut rest)
 

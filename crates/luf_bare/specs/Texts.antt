@@ -27,9 +27,9 @@ module _ {X : Type 0} (kind : X → Tok) (added : X → Bool) where
   IsStringWord x = (kind x ≡ Short ⊎ kind x ≡ Long) × (added x ≡ false)
 
   -- these words do not begin with `(`
-  abbrev pub IsShut : List X → Type 0
-  IsShut [] = Unit {0}
-  IsShut (x ∷ words) = kind x ≡ Sign sign.LeftParen → ⊥
+  abbrev pub NoParenFirst : List X → Type 0
+  NoParenFirst [] = Unit {0}
+  NoParenFirst (x ∷ words) = kind x ≡ Sign sign.LeftParen → ⊥
 
   -- namelist = Name {',' Name}
   pub data WritesNames : List X → List X → Type 0 where
@@ -231,7 +231,7 @@ module _ {X : Type 0} (kind : X → Tok) (added : X → Bool) where
       empty_stat : {semicolon : X} {stats : syntax.Statements (Bare X)} {stats_words : List X} → Adds semicolon (Sign sign.Semicolon)
           → WritesStats stats stats_words → WritesStats stats (semicolon ∷ stats_words)
       more_stats : {s : syntax.Statement (Bare X)} {stats : syntax.Statements (Bare X)} {s_words stats_words : List X} → WritesStat s s_words
-          → IsShut stats_words → WritesStats stats stats_words → WritesStats (syntax.more_statements s stats) (s_words ++ stats_words)
+          → NoParenFirst stats_words → WritesStats stats stats_words → WritesStats (syntax.more_statements s stats) (s_words ++ stats_words)
 
     -- 'return' [explist] [';'], the last statement of a block
     pub data WritesReturn : syntax.Statement (Bare X) → List X → Type 0 where

@@ -6,7 +6,7 @@ use Rattle.luf_lex.specs.declared.token.Tok.{Tok}
 use Rattle.luf_tree.specs.declared.tree.Expr.{Expr}
 use Rattle.luf_tree.specs.declared.tree.Suffix.{Suffix}
 use Rattle.luf_tree.specs.Grammar as g
-use Rattle.luf_tree.specs.Grammar.{IsClosed, IsHead, IsPrefix, IsExpr, AreSuffixes}
+use Rattle.luf_tree.specs.Grammar.{NoParenFollows, IsHead, IsPrefix, IsExpr, AreSuffixes}
 use Rattle.luf_tree.specs.Agree.{AgreeBefore, IsLocal, Front, front_of}
 use Rattle.luf_tree.proofs.Locality.{local_prefix, local_suffixes}
 
@@ -20,7 +20,7 @@ pub cut_agrees : (toks : List Tok) (j : ℕ) → AgreeBefore toks (take j toks) 
 cut_agrees toks j = record { same = λ k less. same_before toks j k less }
 
 -- in the tokens that are cut off at a place, none stands there
-cut_closed : (toks : List Tok) (j : ℕ) → IsClosed (take j toks) j
+cut_closed : (toks : List Tok) (j : ℕ) → NoParenFollows (take j toks) j
 cut_closed toks j there = omega (arith, slice_get_within (take j toks) j _ there, length-take j toks)
 
 -- what is local is derived in the tokens that are cut off at its end

@@ -16,7 +16,7 @@ use Rattle.luf_tree.specs.declared.tree.Suffix.{Suffix}
 use Rattle.luf_tree.specs.declared.tree.Args.{Args}
 use Rattle.luf_tree.specs.declared.tree.Field.{Field}
 use Rattle.luf_tree.specs.Grammar as g
-use Rattle.luf_tree.specs.Grammar.{IsToken, IsClosed}
+use Rattle.luf_tree.specs.Grammar.{IsToken, NoParenFollows}
 use Rattle.luf_tree.specs.Agree.{AgreeBefore, IsLocal}
 
 record Both (A B : Type 0) : Type 0 where
@@ -36,7 +36,7 @@ either_token : {toks : List Tok} {i j : ℕ} {t u : Tok} → IsToken toks i t j 
 either_token (inl t) = by (λ l p. inl p) (token t)
 either_token (inr t) = by (λ l p. inr p) (token t)
 
-closed : {toks : List Tok} {j : ℕ} → IsClosed toks j → IsLocal toks j j (λ l. IsClosed l j)
+closed : {toks : List Tok} {j : ℕ} → NoParenFollows toks j → IsLocal toks j j (λ l. NoParenFollows l j)
 closed c = record { forward = omega arith; at = λ l below closes. closes c }
 
 infixl 5 ◌⨾◌
@@ -46,9 +46,9 @@ infixl 5 ◌⨾◌
     let b = h.forward in
     record { forward = omega arith; at = λ l below closes. record { a = f.at l (record { same = λ n lt. below.same n (omega arith) }) (seam l below closes (cases_lt j k)); b = h.at l below closes } }
   where
-    seam : (l : List Tok) → AgreeBefore toks l k → (IsClosed toks k → IsClosed l k) → (j < k) ⊎ (k ≤ j) → IsClosed toks j → IsClosed l j
+    seam : (l : List Tok) → AgreeBefore toks l k → (NoParenFollows toks k → NoParenFollows l k) → (j < k) ⊎ (k ≤ j) → NoParenFollows toks j → NoParenFollows l j
     seam l below closes (inl lt) c there = c (sym (below.same j lt) ∙ there)
-    seam l below closes (inr le) c there = let b = h.forward in closes (subst (IsClosed toks) (omega arith) c) (subst (λ q. slice_get l q ≡ Some (Sign sign.LeftParen)) (omega arith) there)
+    seam l below closes (inr le) c there = let b = h.forward in closes (subst (NoParenFollows toks) (omega arith) c) (subst (λ q. slice_get l q ≡ Some (Sign sign.LeftParen)) (omega arith) there)
 
 pub local_names : {toks : List Tok} {i j : ℕ} {part : List ℕ} → g.AreNames toks i j part → IsLocal toks i j (λ l. g.AreNames l i j part)
 local_names (g.one_name d0) = by (λ l p. g.one_name p) (token d0)

@@ -4,7 +4,7 @@ use Rattle.luf_lex.specs.declared.token.Tok.{Tok}
 use Rattle.luf_tree.specs.declared.tree.Expr.{Expr}
 use Rattle.luf_tree.specs.declared.tree.ExprKind.TheVariants as expr
 use Rattle.luf_tree.specs.declared.tree.Suffix.{Suffix}
-use Rattle.luf_tree.specs.Grammar.{IsClosed, IsPrefix, IsExpr, expression}
+use Rattle.luf_tree.specs.Grammar.{NoParenFollows, IsPrefix, IsExpr, expression}
 
 -- the other list has the same tokens before a place
 pub record AgreeBefore (toks other : List Tok) (place : ℕ) : Type 0 where
@@ -14,7 +14,7 @@ pub record AgreeBefore (toks other : List Tok) (place : ℕ) : Type 0 where
 -- there that was not there.
 pub record IsLocal (toks : List Tok) (i j : ℕ) (Derived : List Tok → Type 0) : Type 0 where
   pub forward : i ≤ j
-  pub at : (other : List Tok) → AgreeBefore toks other j → (IsClosed toks j → IsClosed other j) → Derived other
+  pub at : (other : List Tok) → AgreeBefore toks other j → (NoParenFollows toks j → NoParenFollows other j) → Derived other
 
 -- a head with the first of its suffixes
 abbrev pub front_of : ℕ → ℕ → Expr → List Suffix → Expr

@@ -4,7 +4,7 @@
 -- The manual leaves two things to its text, and here they are part of the grammar. Precedence (3.4.8): an
 -- expression has a precedence, from 1 on, and operators of one precedence stand in one chain; `IsExpr toks 1` is any
 -- expression. And a `(` that can continue a call continues it (after 3.3.1): no `(` follows a prefix expression
--- that is whole (`IsClosed`). So of two statements the first does not end in a prefix expression where the second
+-- that is whole (`NoParenFollows`). So of two statements the first does not end in a prefix expression where the second
 -- begins with `(`.
 use Rattle.std.specs.Prelude.{◌≡◌, ℕ, ◌+◌, ◌<◌, ◌≤◌, ◌⊎◌, Bool, true, false, Option, Some, None, List, [], ◌∷◌, length, slice_get}
 use Rattle.luf_lex.specs.declared.token.Tok.{Tok}
@@ -44,8 +44,8 @@ abbrev pub IsString : List Tok → ℕ → ℕ → Type 0
 IsString toks i j = IsToken toks i Short j ⊎ IsToken toks i Long j
 
 -- no `(` stands there, which would continue a prefix expression that ends before it
-abbrev pub IsClosed : List Tok → ℕ → Type 0
-IsClosed toks i = At toks i (Sign sign.LeftParen) → ⊥
+abbrev pub NoParenFollows : List Tok → ℕ → Type 0
+NoParenFollows toks i = At toks i (Sign sign.LeftParen) → ⊥
 
 -- an expression or a statement of the tokens from i to j
 abbrev pub expression : ℕ → ℕ → ExprKind → Expr
@@ -125,7 +125,7 @@ mutual
     vararg_simple : {i j : ℕ} → IsToken toks i (Sign sign.Dots) j → IsSimple toks i j (expression i j expr.Vararg)
     function_simple : {i j k : ℕ} {f : FuncBody} → IsToken toks i (Word word.Function) j → IsFuncBody toks j k f → IsSimple toks i k (expression i k (expr.Function f))
     table_simple : {i j : ℕ} {fields : List Field} → IsTable toks i j fields → IsSimple toks i j (expression i j (expr.Table fields))
-    prefix_simple : {i j : ℕ} {e : Expr} → IsPrefix toks i j e → IsClosed toks j → IsSimple toks i j e
+    prefix_simple : {i j : ℕ} {e : Expr} → IsPrefix toks i j e → NoParenFollows toks j → IsSimple toks i j e
 
   -- prefix = var | call | '(' exp ')'
   pub data IsPrefix (toks : List Tok) : ℕ → ℕ → Expr → Type 0 where
@@ -238,7 +238,7 @@ mutual
     assign_stat : {i j k l : ℕ} {targets es : List Expr} → AreTargets toks i j targets → IsToken toks j (Sign sign.Assign) k → AreExprs toks k l es
         → IsStat toks i l (statement i l (stat.Assign targets es))
     -- call
-    call_stat : {i j : ℕ} {e : Expr} → IsCall toks i j e → IsClosed toks j → IsStat toks i j (statement i j (stat.Call e))
+    call_stat : {i j : ℕ} {e : Expr} → IsCall toks i j e → NoParenFollows toks j → IsStat toks i j (statement i j (stat.Call e))
     -- 'do' block 'end'
     do_stat : {i j k l : ℕ} {body : Block} → IsToken toks i (Word word.Do) j → IsBlock toks j k body → IsToken toks k (Word word.End) l
         → IsStat toks i l (statement i l (stat.Do body))

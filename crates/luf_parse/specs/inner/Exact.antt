@@ -1,5 +1,7 @@
 -- How the functions of the parser say that their answer is the only one.
-use Rattle.std.specs.Prelude.{◌≡◌, ℕ, ◌+◌}
+use Rattle.std.specs.Prelude.{◌≡◌, ℕ, ◌+◌, ◌≤◌, List, length}
+use Rattle.luf_lex.specs.declared.token.Tok.{Tok}
+use Rattle.luf_parse.specs.Cause.{OfToken}
 use Rattle.luf_parse.specs.declared.error.ParseErr.{ParseErr}
 use Rattle.luf_parse.specs.declared.error.ParseErr.TheVariants as error
 
@@ -7,8 +9,9 @@ use Rattle.luf_parse.specs.declared.error.ParseErr.TheVariants as error
 abbrev pub Alone : {A : Type 0} → (A → Type 0) → A → Type 0
 Alone {A} P x = (y : A) → P y → y ≡ x
 
--- of nothing it is said, where the refusal is no want of memory
-pub record Refutes {A : Type 0} (P : A → Type 0) (e : ParseErr) : Type 0 where
+-- an error names a token of the list or the end, and is no want of memory only where of nothing this is said
+pub record Refutes {A : Type 0} (toks : List Tok) (P : A → Type 0) (e : ParseErr) : Type 0 where
+  pub token : OfToken (λ token. token ≤ length toks) e
   pub nothing : (e ≡ error.Memory → ⊥) → (y : A) → P y → ⊥
 
 -- a part is read, and then, from what it is, the whole

@@ -1,5 +1,5 @@
 -- What may stand behind a part, so that no part goes on there.
-use Rattle.std.specs.Prelude.{◌≡◌, ℕ, ◌<◌, ◌⊎◌, Bool, true, false, Option, Some, None, List, slice_get}
+use Rattle.std.specs.Prelude.{◌≡◌, ℕ, ◌<◌, ◌⊎◌, Bool, true, false, ◌||◌, Option, Some, None, List, slice_get}
 use Rattle.luf_lex.specs.declared.token.Tok.{Tok}
 use Rattle.luf_lex.specs.declared.token.Tok.TheVariants as tok
 use Rattle.luf_lex.specs.declared.token.Word.{Word}
@@ -7,7 +7,8 @@ use Rattle.luf_lex.specs.declared.token.Word.TheVariants as word
 use Rattle.luf_lex.specs.declared.token.Sign.{Sign}
 use Rattle.luf_lex.specs.declared.token.Sign.TheVariants as sign
 use Rattle.luf_tree.specs.Grammar.{At, IsToken, IsString}
-use Rattle.luf_parse.specs.Reads.{level_at}
+use Rattle.luf_tree.specs.Operator.{binary_precedence}
+use Rattle.luf_tree.specs.First.{starts_stat}
 
 -- another token stands there, or the end
 abbrev pub NotAt : List Tok → ℕ → Tok → Type 0
@@ -27,14 +28,22 @@ continues_prefix (Some tok.Long) = true
 continues_prefix (Some (tok.Sign s)) = sign_continues s
 continues_prefix _ = false
 
+abbrev pub precedence_of : Option Tok → ℕ
+precedence_of None = 0
+precedence_of (Some t) = binary_precedence t
+
+-- the precedence of the binary operator at a place; 0 where none stands
+abbrev pub precedence_at : List Tok → ℕ → ℕ
+precedence_at toks i = precedence_of (slice_get toks i)
+
 -- no operand goes on there
 pub record EndsOperand (toks : List Tok) (i : ℕ) : Type 0 where
   pub suffix : continues_prefix (slice_get toks i) ≡ false
   pub power : NotAt toks i (tok.Sign sign.Caret)
 
--- no expression of a level goes on there
+-- no expression of a precedence goes on there
 pub record EndsExpr (toks : List Tok) (least i : ℕ) : Type 0 where
-  pub level : level_at toks i < least
+  pub precedence : precedence_at toks i < least
   pub operand : EndsOperand toks i
 
 -- no list of expressions goes on there
@@ -79,36 +88,9 @@ ends_return (Some (tok.Word w)) = word_stops_stats w
 ends_return (Some (tok.Sign s)) = sign_ends_return s
 ends_return _ = false
 
-abbrev pub word_follows_stat : Word → Bool
-word_follows_stat word.End = true
-word_follows_stat word.Else = true
-word_follows_stat word.ElseIf = true
-word_follows_stat word.Until = true
-word_follows_stat word.Return = true
-word_follows_stat word.Break = true
-word_follows_stat word.Goto = true
-word_follows_stat word.Do = true
-word_follows_stat word.While = true
-word_follows_stat word.Repeat = true
-word_follows_stat word.If = true
-word_follows_stat word.For = true
-word_follows_stat word.Function = true
-word_follows_stat word.Local = true
-word_follows_stat _ = false
-
-abbrev pub sign_follows_stat : Sign → Bool
-sign_follows_stat sign.Semicolon = true
-sign_follows_stat sign.DoubleColon = true
-sign_follows_stat sign.LeftParen = true
-sign_follows_stat _ = false
-
 -- the end of a block, a `return`, or what begins a statement
 abbrev pub follows_stat : Option Tok → Bool
-follows_stat None = true
-follows_stat (Some tok.Name) = true
-follows_stat (Some (tok.Word w)) = word_follows_stat w
-follows_stat (Some (tok.Sign s)) = sign_follows_stat s
-follows_stat _ = false
+follows_stat t = stops_stats t || starts_stat t
 
 abbrev pub EndsStat : List Tok → ℕ → Type 0
 EndsStat toks i = follows_stat (slice_get toks i) ≡ true

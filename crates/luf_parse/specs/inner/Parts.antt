@@ -21,10 +21,10 @@ use Rattle.luf_tree.specs.declared.tree.Field.{Field}
 use Rattle.luf_tree.specs.declared.tree.Field.TheVariants as field
 use Rattle.luf_tree.specs.Level.{deepest, expr_levels, field_levels, suffix_levels, step_levels, stat_levels, block_levels, arm_levels, args_levels, body_levels, if_there, block_if_there}
 use Rattle.luf_tree.specs.Grammar.{At, expression, statement, IsToken, AreNames, AreParams, IsAttribute, AreDeclared, IsPath, IsMethod, IsSemicolon, IsExpr, AreSteps, IsOperand, IsSimple, IsVariable, IsParen, IsHead, AreSuffixes, IsSuffix, IsArgs, AreExprs, IsTable, AreFields, IsField, IsFuncBody, IsBlock, AreStats, IsReturn, IsStat, AreTargets, IsArm, AreArms, IsElse, IsForStep}
-use Rattle.luf_parse.specs.Exact.{Then, Enters}
-use Rattle.luf_parse.specs.Follow.{NotAt, IsAssigned, NotAssigned, continues_prefix, EndsOperand, EndsExpr, EndsExprs, EndsBlock, EndsStat, EndsArms, EndsField}
-use Rattle.luf_parse.specs.Reads.{begins_suffix}
-use Rattle.luf_parse.specs.Shapes.{IsShaped, lone_args}
+use Rattle.luf_parse.specs.inner.Exact.{Then, Enters}
+use Rattle.luf_parse.specs.inner.Follow.{NotAt, IsAssigned, NotAssigned, continues_prefix, EndsOperand, EndsExpr, EndsExprs, EndsBlock, EndsStat, EndsArms, EndsField}
+use Rattle.luf_parse.specs.inner.Reads.{begins_suffix}
+use Rattle.luf_parse.specs.inner.Shapes.{IsShaped, lone_args}
 use Rattle.luf_parse.specs.declared.prefixes.PrefixExpr.{PrefixExpr}
 use Rattle.luf_parse.specs.declared.prefixes.Shape.{Shape}
 use Rattle.luf_parse.specs.declared.prefixes.Shape.TheVariants.{Variable, Call, Paren}
