@@ -8,7 +8,7 @@ ghost use Rattle.luf_num.specs.Digit.{is_digit, is_hex_digit, value_in};
 const LARGEST: u64 = (1 << 63) - 1;
 
 /// The value of a hexadecimal digit.
-fn hex_digit_value(byte: u8) -> u8
+pub fn hex_digit_value(byte: u8) -> u8
     requires { IsTrue (is_hex_digit byte) }
     ensures value { result ≡ digit_value byte }
     ensures small { result < 16 }
