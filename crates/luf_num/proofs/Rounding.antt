@@ -1,10 +1,10 @@
 -- Rounding to 53 bits gives the word that is nearest.
-use Rattle.std.proofs.Common.{◌≡◌, ℕ, suc, ◌+◌, ◌-◌, ◌*◌, ◌/◌, ◌%◌, ◌^◌, ◌<◌, ◌≤◌, Bool, true, false, not, IsTrue, ◌⊎◌, inl, inr, ⊎_elim, refl, sym, ap, ◌∙◌, subst, arith}
-use Rattle.std.proofs.lemmas.Bool.{both_ways, cases_lt, cases_Bool}
+use Rattle.std.proofs.Common.{◌≡◌, ℕ, ◌+◌, ◌-◌, ◌*◌, ◌/◌, ◌%◌, ◌^◌, ◌<◌, ◌≤◌, Bool, true, false, IsTrue, ⊎_elim, refl, sym, ap, ◌∙◌, subst, arith}
+use Rattle.std.proofs.lemmas.Bool.{cases_lt}
 use Rattle.std.proofs.lemmas.Nat.{mul-le, one_shl, pow-add, pow_pos, shl_whole}
 use Rattle.std.proofs.Math.Nat.{mul-div_cancel, pow-le-pow_right}
 use Rattle.luf_num.specs.Rounded.{IsAbout, IsMantissa, IsRounded}
-use Rattle.luf_num.specs.Word.{IsNearest, middle_above, middle_below, scaled_one, scaled_value}
+use Rattle.luf_num.specs.Word.{IsNearest, scaled_one, scaled_value}
 
 -- the parts of a word
 word_fraction : (x m : ℕ) → 0 < x → 2 ^ 52 ≤ m → m < 2 ^ 53 → 2 ^ 52 + ((x - 1) * 2 ^ 52 + m) % 2 ^ 52 ≡ m
@@ -21,22 +21,22 @@ value_at w x m is some low high =
     ap (λ f. f * 2 ^ (w / 2 ^ 52)) fraction ∙ ap (λ e. m * 2 ^ e) exponent
 
 -- one power more
-twice : (x : ℕ) → 2 ^ (x + 1) ≡ 2 * 2 ^ x
+pub twice : (x : ℕ) → 2 ^ (x + 1) ≡ 2 * 2 ^ x
 twice x = pow-add 2 x 1 ∙ omega arith
 
 -- the value of a word whose 53 bits may have been rounded up to 2 ^ 53
-value_to : (w x m : ℕ) → w ≡ (x - 1) * 2 ^ 52 + m → 0 < x → 2 ^ 52 ≤ m → m ≤ 2 ^ 53 → scaled_value w ≡ m * 2 ^ x
+pub value_to : (w x m : ℕ) → w ≡ (x - 1) * 2 ^ 52 + m → 0 < x → 2 ^ 52 ≤ m → m ≤ 2 ^ 53 → scaled_value w ≡ m * 2 ^ x
 value_to w x m is some low high = ⊎_elim
     (λ below. value_at w x m is some low below)
     (λ top.
-      let same : m ≡ 2 ^ 53 = omega arith in
-      let at = value_at w (x + 1) (2 ^ 52) (omega arith) (omega arith) (omega arith) (omega arith) in
-      let power = twice x in
-      let scaled : m * 2 ^ x ≡ 2 ^ 53 * 2 ^ x = ap (λ k. k * 2 ^ x) same in
-      omega arith) (cases_lt m (2 ^ 53))
+    let same : m ≡ 2 ^ 53 = omega arith in
+    let at = value_at w (x + 1) (2 ^ 52) (omega arith) (omega arith) (omega arith) (omega arith) in
+    let power = twice x in
+    let scaled : m * 2 ^ x ≡ 2 ^ 53 * 2 ^ x = ap (λ k. k * 2 ^ x) same in
+    omega arith) (cases_lt m (2 ^ 53))
 
 -- the value of the next word
-value_next : (w x m : ℕ) → w ≡ (x - 1) * 2 ^ 52 + m → 0 < x → 2 ^ 52 ≤ m → m < 2 ^ 53 → scaled_value (w + 1) ≡ (m + 1) * 2 ^ x
+pub value_next : (w x m : ℕ) → w ≡ (x - 1) * 2 ^ 52 + m → 0 < x → 2 ^ 52 ≤ m → m < 2 ^ 53 → scaled_value (w + 1) ≡ (m + 1) * 2 ^ x
 value_next w x m is some low high = value_to (w + 1) x (m + 1) (omega arith) some (omega arith) (omega arith)
 
 value_next_top : (w x : ℕ) → w ≡ (x - 1) * 2 ^ 52 + 2 ^ 53 → 0 < x → scaled_value (w + 1) ≡ (2 ^ 53 + 2) * 2 ^ x
@@ -138,9 +138,9 @@ module _ (n d x w : ℕ) (some : 1 < x) (small : x < 2045) where
   pub nearest_from_middle : (m : ℕ) → w ≡ (x - 1) * 2 ^ 52 + m → 2 ^ 52 ≤ m → m ≤ 2 ^ 53 → IsMiddle (n * scaled_one) (2 ^ x * d) m → IsNearest n d w
   nearest_from_middle m is low high middle = ⊎_elim
       (λ inner. ⊎_elim
-        (λ more. nearest_inner (m - 1) (omega arith) (omega arith) (omega arith) (subst (λ k. IsMiddle (n * scaled_one) (2 ^ x * d) k) (omega arith) middle))
-        (λ least. let e : m ≡ 2 ^ 52 = omega arith in nearest_power (omega arith) (subst (λ k. IsMiddle (n * scaled_one) (2 ^ x * d) k) e middle))
-        (cases_lt (2 ^ 52) m))
+      (λ more. nearest_inner (m - 1) (omega arith) (omega arith) (omega arith) (subst (λ k. IsMiddle (n * scaled_one) (2 ^ x * d) k) (omega arith) middle))
+      (λ least. let e : m ≡ 2 ^ 52 = omega arith in nearest_power (omega arith) (subst (λ k. IsMiddle (n * scaled_one) (2 ^ x * d) k) e middle))
+      (cases_lt (2 ^ 52) m))
       (λ top. let e : m ≡ 2 ^ 53 = omega arith in nearest_top (omega arith) (subst (λ k. IsMiddle (n * scaled_one) (2 ^ x * d) k) e middle))
       (cases_lt m (2 ^ 53))
 
@@ -255,8 +255,8 @@ module _ (s scale top m n d : ℕ) (left_over : Bool) (low : 2 ^ top ≤ s) (bou
   exponent_small : scale + top - 52 < 2045
   exponent_small = ⊎_elim (λ small. omega arith)
       (λ large. ⊎_elim (λ few. omega arith)
-        (λ many. let power : 2 ^ 53 ≤ 2 ^ top = pow-le-pow_right {n = 2} (omega arith) {i = 53} {j = top} many in let few = short large in absurd (omega arith))
-        (cases_lt top 53))
+      (λ many. let power : 2 ^ 53 ≤ 2 ^ top = pow-le-pow_right {n = 2} (omega arith) {i = 53} {j = top} many in let few = short large in absurd (omega arith))
+      (cases_lt top 53))
       (cases_lt scale 1076)
 
   short_middle : top ≤ 52 → left_over ≡ false → IsMiddle (n * scaled_one) (2 ^ (scale + top - 52) * d) m
@@ -266,7 +266,7 @@ module _ (s scale top m n d : ℕ) (left_over : Bool) (low : 2 ^ top ≤ s) (bou
       let value : n * scaled_one ≡ s * 2 ^ scale * d = subst (λ b. IsAbout (n * scaled_one) d s (2 ^ scale) b) exact about in
       let is : m ≡ s * 2 ^ (52 - top) = mantissa.2.0 few in
       whole_middle m (2 ^ x * d) (n * scaled_one) (mul-le 1 1 (2 ^ x) d (pow_pos x) some) mantissa.0
-        (value ∙ short_scale s (2 ^ scale) (2 ^ (52 - top)) (2 ^ x) d power ∙ ap (λ k. k * (2 ^ x * d)) (sym is))
+      (value ∙ short_scale s (2 ^ scale) (2 ^ (52 - top)) (2 ^ x) d power ∙ ap (λ k. k * (2 ^ x * d)) (sym is))
 
   long_middle : 53 ≤ top → IsMiddle (n * scaled_one) (2 ^ (scale + top - 52) * d) m
   long_middle many =
@@ -276,17 +276,17 @@ module _ (s scale top m n d : ℕ) (left_over : Bool) (low : 2 ^ top ≤ s) (bou
       let power : 2 ^ x ≡ 2 * (half * 2 ^ scale) = ap (λ e. 2 ^ e) (omega arith) ∙ twice (top - 53 + scale) ∙ ap (λ k. 2 * k) (sym joined) in
       let whole = split_power 53 top many in
       rounded_middle s half m (n * scaled_one) (2 ^ scale * d) (2 ^ x * d) (mul-le 1 1 (2 ^ scale) d (pow_pos scale) some)
-        (long_step half (2 ^ scale) (2 ^ x) d power) (omega arith) left_over (2 ^ scale) d refl (mantissa.2.1 many) about
+      (long_step half (2 ^ scale) (2 ^ x) d power) (omega arith) left_over (2 ^ scale) d refl (mantissa.2.1 many) about
 
   pub word_is_nearest : (IsTrue left_over → 53 ≤ top) → IsNearest n d (((scale + top - 52 - 1) * 2 ^ 52) % 2 ^ 64 + m)
   word_is_nearest enough =
       let small = exponent_small in
       nearest_from_middle n d (scale + top - 52) (((scale + top - 52 - 1) * 2 ^ 52) % 2 ^ 64 + m) (omega arith) small m (omega arith) mantissa.0 mantissa.1
-        (⊎_elim (λ few. short_middle (omega arith) (false_from few enough left_over refl)) (λ many. long_middle many) (cases_lt top 53))
+      (⊎_elim (λ few. short_middle (omega arith) (false_from few enough left_over refl)) (λ many. long_middle many) (cases_lt top 53))
     where
-    false_from : top < 53 → (IsTrue left_over → 53 ≤ top) → (b : Bool) → b ≡ left_over → left_over ≡ false
-    false_from few enough false is = sym is
-    false_from few enough true is = absurd (let many = enough (sym is) in omega arith)
+      false_from : top < 53 → (IsTrue left_over → 53 ≤ top) → (b : Bool) → b ≡ left_over → left_over ≡ false
+      false_from few enough false is = sym is
+      false_from few enough true is = absurd (let many = enough (sym is) in omega arith)
 
 -- a number of more than 53 bits has a high bit
 pub enough_bits : (s top : ℕ) → 2 ^ 53 ≤ s → s < 2 * 2 ^ top → 53 ≤ top

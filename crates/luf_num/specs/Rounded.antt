@@ -6,8 +6,8 @@ use Rattle.std.specs.Prelude.{◌≡◌, ℕ, ◌+◌, ◌-◌, ◌*◌, ◌%◌
 abbrev pub IsAbout : (value denominator significand unit : ℕ) → Bool → Type 0
 IsAbout value denominator significand unit left_over =
     MatchBool left_over
-      ((significand * unit * denominator < value) × (value < (significand + 1) * unit * denominator))
-      (value ≡ significand * unit * denominator)
+    ((significand * unit * denominator < value) × (value < (significand + 1) * unit * denominator))
+    (value ≡ significand * unit * denominator)
 
 -- the number of `2 * half` that is nearest to the significand, ties to the even one; where something is left over there is no tie
 pub record IsRounded (significand half : ℕ) (left_over : Bool) (rounded : ℕ) : Type 0 where

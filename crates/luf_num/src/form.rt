@@ -169,8 +169,15 @@ pub fn float_parts(base: Base, bytes: &[u8]) -> Option<Parts<'_>>
     let (whole, after_whole) = split_digits(base, bytes);
     let (point, after_point) = split_point(after_whole);
     let (fraction, exponent) = split_digits(base, after_point);
-    if has_byte(whole, fraction) && has_byte(point, exponent) && is_optional_exponent(base, exponent) {
-        Some(Parts { whole, fraction, exponent })
+    if has_byte(whole, fraction)
+        && has_byte(point, exponent)
+        && is_optional_exponent(base, exponent)
+    {
+        Some(Parts {
+            whole,
+            fraction,
+            exponent,
+        })
     } else {
         None
     }

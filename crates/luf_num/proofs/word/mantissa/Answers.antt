@@ -1,5 +1,5 @@
 -- The power of 2 under a half.
-use Rattle.std.proofs.Common.{◌≡◌, ◌≤◌, ◌-◌, ◌^◌, arith}
+use Rattle.std.proofs.Common.{◌≤◌, ◌-◌, ◌^◌, arith}
 use Rattle.std.proofs.Math.Nat.{pow-le-pow_right}
 use Rattle.luf_num.proofs.Rounding.{half_is, short_mantissa, split_power}
 use Rattle.luf_num.proofs.word.mantissa.Goals as goal
