@@ -6,13 +6,26 @@ use Rattle.luf_chunk.specs.declared.error.ChunkErr.{ChunkErr}
 use Rattle.luf_chunk.specs.declared.error.ChunkErr.TheVariants.{FloatReach, Memory}
 use Rattle.luf_proto.specs.Chunk.{constant_bytes, function_bytes, functions_bytes, list_bytes}
 use Rattle.luf_proto.specs.Function.{Function, Functions}
+use Rattle.luf_proto.specs.FunctionOf.{functions_of}
+use Rattle.luf_num.specs.Word.{IsFloatWord}
 use Rattle.luf_proto.specs.declared.proto.Const.{Const}
+use Rattle.luf_proto.specs.declared.proto.Const.TheVariants.{Spelled, Word}
 
 -- the bytes of a constant are appended, with its word in place of a float that is spelled
 pub record WritesConstant (constant : Const) (old new : List ℕ) : Type 0 where
   pub worded : Const
   pub is_worded : IsWordedConstant constant worded
   pub appended : new ≡ old ++ constant_bytes worded
+
+-- the word of a float is appended as a constant
+pub record WritesFloat (spelling old new : List ℕ) : Type 0 where
+  pub word : ℕ
+  pub is_word : IsFloatWord spelling word
+  pub appended : new ≡ old ++ constant_bytes (Word word)
+
+abbrev pub IsNotSpelled : Const → Type 0
+IsNotSpelled (Spelled spelling) = ⊥
+IsNotSpelled constant = Unit {0}
 
 pub record WritesConstants (constants : List Const) (old new : List ℕ) : Type 0 where
   pub worded : List Const
@@ -33,6 +46,15 @@ pub record WritesFunctions (fs : Functions) (old new : List ℕ) : Type 0 where
   pub worded : Functions
   pub are_worded : AreWorded fs worded
   pub appended : new ≡ old ++ functions_bytes worded
+
+abbrev pub AreWordedList : List Function → List Function → Type 0
+AreWordedList [] worded = worded ≡ []
+AreWordedList (f ∷ fs) worded = (first : Function) × (rest : List Function) × IsWorded f first × AreWordedList fs rest × (worded ≡ first ∷ rest)
+
+pub record WritesList (fs : List Function) (old new : List ℕ) : Type 0 where
+  pub worded : List Function
+  pub are_worded : AreWordedList fs worded
+  pub appended : new ≡ old ++ functions_bytes (functions_of worded)
 
 -- a float has no word, the first of these, or no memory was found
 abbrev pub HasCause : ChunkErr → List (List ℕ) → Type 0
