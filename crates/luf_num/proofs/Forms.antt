@@ -84,7 +84,7 @@ no_exponent_in_digits digit mark no_mark s all scaled = ⊎_elim (λ e. e)
     let no = no_mark e.letter e.marked in cc) scaled
 
 -- the prefix is the first two bytes
-prefix_taken : (s prefix rest : List ℕ) → s ≡ prefix ++ rest → IsHexPrefix prefix → IsHexPrefix (take 2 s)
+pub prefix_taken : (s prefix rest : List ℕ) → s ≡ prefix ++ rest → IsHexPrefix prefix → IsHexPrefix (take 2 s)
 prefix_taken s prefix rest spelled prefixed = ⊎_elim
     (λ e. inl (rw spelled (rw e refl))) (λ e. inr (rw spelled (rw e refl))) prefixed
 

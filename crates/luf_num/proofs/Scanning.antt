@@ -8,9 +8,9 @@ use Rattle.luf_num.specs.inner.Base.{is_digit_in, is_mark_in}
 use Rattle.luf_num.specs.declared.form.Base.{Base}
 use Rattle.luf_num.specs.declared.form.Base.TheVariants.{Decimal, Hexadecimal}
 use Rattle.luf_byte.specs.Class.{is_digit}
-use Rattle.luf_num.specs.Numeral.{IsDigits, IsOptionalSign, IsExponent, HasFloatForm}
+use Rattle.luf_num.specs.Numeral.{IsDigits, IsOptionalSign, IsExponent, HasFloatForm, is_sign}
 use Rattle.luf_num.proofs.Forms.{list_all_both, list_all_parts, digit_no_mark, hex_digit_no_mark}
-use Rattle.luf_num.specs.inner.Parts.{SplitsWhile, SplitsFirst, is_point, is_sign}
+use Rattle.luf_num.specs.inner.Parts.{SplitsWhile, SplitsFirst, is_point}
 
 prefix_longer : (test : ℕ → Bool) (x : ℕ) (xs : List ℕ) → test x ≡ true → prefix_len test (x ∷ xs) ≡ suc (prefix_len test xs)
 prefix_longer test x xs holds = rw holds (omega arith)
@@ -118,7 +118,7 @@ pub record IsFloatSplit (digit : ℕ → Bool) (s whole point fraction exponent 
   pub second : SplitsFirst is_point after_whole point after_point
   pub third : SplitsWhile digit after_point fraction exponent
 
-cut_point : (s front back : List ℕ) → SplitsFirst is_point s front back → ((front ≡ []) ⊎ (front ≡ codes ".")) × (s ≡ front ++ back)
+pub cut_point : (s front back : List ℕ) → SplitsFirst is_point s front back → ((front ≡ []) ⊎ (front ≡ codes ".")) × (s ≡ front ++ back)
 cut_point s [] back cut = (inl refl, cut.0)
 cut_point s (x ∷ xs) back cut =
     let e : x ≡ 46 = eqb-true x 46 cut.2 in (inr (rw (e, cut.1) refl), rw cut.1 cut.0)
@@ -140,7 +140,7 @@ float_from_cut digit mark s whole point fraction exponent cut some not_integer s
     }
 
 -- the exponent does not begin with a byte that is no mark
-stops_at_exponent : (mark test : ℕ → Bool) → ((x : ℕ) → mark x ≡ true → test x ≡ false) → (s : List ℕ) → (s ≡ []) ⊎ IsExponent mark s → NoneAtFront test s
+pub stops_at_exponent : (mark test : ℕ → Bool) → ((x : ℕ) → mark x ≡ true → test x ≡ false) → (s : List ℕ) → (s ≡ []) ⊎ IsExponent mark s → NoneAtFront test s
 stops_at_exponent mark test no_mark s scaled = ⊎_elim (λ e. rw e tt) (λ e. rw e.spelled (no_mark e.letter e.marked)) scaled
 
 -- what a cut gives of a spelling that has the form
@@ -205,15 +205,15 @@ module _ (digit mark : ℕ → Bool) (s whole point fraction exponent : List ℕ
   cut_from_float = ⊎_elim without_point with_point form.pointed
 
 -- the tests of a base
-no_point_in : (base : Base) → is_digit_in base 46 ≡ false
+pub no_point_in : (base : Base) → is_digit_in base 46 ≡ false
 no_point_in Decimal = refl
 no_point_in Hexadecimal = refl
 
-no_mark_in : (base : Base) (x : ℕ) → is_mark_in base x ≡ true → is_digit_in base x ≡ false
+pub no_mark_in : (base : Base) (x : ℕ) → is_mark_in base x ≡ true → is_digit_in base x ≡ false
 no_mark_in Decimal x marked = digit_no_mark x marked
 no_mark_in Hexadecimal x marked = hex_digit_no_mark x marked
 
-mark_no_point_in : (base : Base) (x : ℕ) → is_mark_in base x ≡ true → is_point x ≡ false
+pub mark_no_point_in : (base : Base) (x : ℕ) → is_mark_in base x ≡ true → is_point x ≡ false
 mark_no_point_in Decimal x marked = grind (arith, nat_tests)
 mark_no_point_in Hexadecimal x marked = grind (arith, nat_tests)
 

@@ -1,11 +1,18 @@
--- What a decimal digit is worth.
-use Rattle.std.proofs.Common.{◌≡◌, ℕ, ◌+◌, ◌<◌, ◌≤◌, Bool, true, List, length, get_or, arith}
+-- The value of digits, one digit at a time.
+use Rattle.std.proofs.Common.{◌≡◌, ℕ, ◌+◌, ◌*◌, ◌<◌, ◌≤◌, Bool, true, List, [], ◌∷◌, ◌++◌, length, take, drop, get_or, fold, sym, ap, ◌∙◌, arith, take-append-drop}
 use Rattle.std.specs.List.{list_all}
 use Rattle.std.specs.Char.{digit_value}
 use Rattle.std.proofs.lemmas.Bool.{true_from_ne_false, both_ways}
 use Rattle.std.proofs.lemmas.Bool.Decides.{nat_tests}
 use Rattle.std.proofs.lemmas.List.Folds.{list_all_at}
+use Rattle.std.proofs.lemmas.List.Sums.{fold_more, fold-append}
+use Rattle.std.proofs.lemmas.Nat.{mul-le}
+use Rattle.luf_num.specs.inner.Base.{radix_of}
 use Rattle.luf_byte.specs.Class.{is_digit}
+use Rattle.std.specs.Str.Parse.{digits_value}
+use Rattle.luf_num.specs.inner.FloatParts.{value_from}
+use Rattle.luf_num.specs.declared.form.Base.{Base}
+use Rattle.luf_num.specs.declared.form.Base.TheVariants.{Decimal, Hexadecimal}
 
 -- what each element passes, the one at an index passes
 pub passes_at : (test : ℕ → Bool) (xs : List ℕ) (i : ℕ) → list_all test xs ≡ true → i < length xs → test (get_or xs i 0) ≡ true
@@ -19,3 +26,26 @@ pub record IsDigitByte (byte : ℕ) : Type 0 where
 
 pub digit_byte : (byte : ℕ) → is_digit byte ≡ true → IsDigitByte byte
 digit_byte byte digit = record { value = grind (arith, nat_tests); small = grind (arith, nat_tests) }
+
+-- digits behind a number so far
+pub value_from-more : (radix so_far : ℕ) (digits : List ℕ) (i : ℕ) → i < length digits
+    → value_from radix so_far (take (i + 1) digits) ≡ value_from radix so_far (take i digits) * radix + digit_value (get_or digits i 0)
+value_from-more radix so_far digits i within = fold_more (λ value digit. value * radix + digit_value digit) so_far digits i 0 within
+
+pub value_from_grows : (radix : ℕ) → 0 < radix → (digits : List ℕ) (value : ℕ) → value ≤ value_from radix value digits
+value_from_grows radix some [] value = omega arith
+value_from_grows radix some (digit ∷ digits) value =
+    let more = mul-le value 1 value radix (omega arith) some in
+    omega (arith, value_from_grows radix some digits (value * radix + digit_value digit))
+
+pub value_from-append : (radix so_far : ℕ) (xs ys : List ℕ) → value_from radix so_far (xs ++ ys) ≡ value_from radix (value_from radix so_far xs) ys
+value_from-append radix so_far xs ys = fold-append (λ value digit. value * radix + digit_value digit) so_far xs ys
+
+pub value_from-take-le : (radix : ℕ) → 0 < radix → (so_far : ℕ) (digits : List ℕ) (n : ℕ) → value_from radix so_far (take n digits) ≤ value_from radix so_far digits
+value_from-take-le radix some so_far digits n =
+    let whole = ap (value_from radix so_far) (sym (take-append-drop n digits)) ∙ value_from-append radix so_far (take n digits) (drop n digits) in
+    rw whole (value_from_grows radix some (drop n digits) (value_from radix so_far (take n digits)))
+
+pub radix_some : (base : Base) → 0 < radix_of base
+radix_some Decimal = omega arith
+radix_some Hexadecimal = omega arith

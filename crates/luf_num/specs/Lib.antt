@@ -1,3 +1,5 @@
--- Numerals. What a reader has to believe stands in Numeral; inner is for private functions.
+-- Numerals, floats and their words. What a reader has to believe stands in Numeral, Float and Word; inner is for private functions.
+pub mod Float
 pub mod Numeral
+pub mod Word
 pub mod inner

@@ -25,6 +25,10 @@ is_decimal_mark b = b == byte "e" || b == byte "E"
 abbrev pub is_binary_mark : ℕ → Bool
 is_binary_mark b = b == byte "p" || b == byte "P"
 
+-- `+` or `-`
+abbrev pub is_sign : ℕ → Bool
+is_sign b = b == byte "+" || b == byte "-"
+
 -- nothing, `+` or `-`
 abbrev pub IsOptionalSign : List ℕ → Type 0
 IsOptionalSign s = (s ≡ []) ⊎ (s ≡ codes "+") ⊎ (s ≡ codes "-")

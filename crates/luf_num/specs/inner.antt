@@ -2,3 +2,5 @@
 -- has to be believed.
 pub mod Base
 pub mod Parts
+pub mod FloatParts
+pub mod Rounded

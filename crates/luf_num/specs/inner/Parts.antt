@@ -1,5 +1,5 @@
 -- The parts into which the spelling of a numeral is cut, from the left.
-use Rattle.std.specs.Prelude.{◌≡◌, ℕ, Bool, ◌||◌, ◌==◌, List, [], ◌∷◌, ◌++◌, IsTrue}
+use Rattle.std.specs.Prelude.{◌≡◌, ℕ, Bool, ◌==◌, List, [], ◌∷◌, ◌++◌, IsTrue}
 use Rattle.std.specs.List.{list_all}
 use Rattle.std.specs.Str.{byte}
 use Rattle.luf_byte.specs.Front.{NoneAtFront}
@@ -13,10 +13,6 @@ pub record SplitsWhile (test : ℕ → Bool) (s front back : List ℕ) : Type 0 
 -- the test that a byte is a point
 abbrev pub is_point : ℕ → Bool
 is_point b = b == byte "."
-
--- the test that a byte is a sign
-abbrev pub is_sign : ℕ → Bool
-is_sign b = b == byte "+" || b == byte "-"
 
 -- s is cut after its first byte, if that passes the test
 abbrev pub SplitsFirst : (ℕ → Bool) → List ℕ → List ℕ → List ℕ → Type 0
