@@ -1,8 +1,7 @@
 -- Each text has a first piece, or a fault.
-use Rattle.std.proofs.Common.{◌≡◌, ℕ, suc, ◌+◌, ◌<◌, ◌≤◌, ◌⊎◌, Bool, true, false, cond, ◌&&◌, ◌||◌, eqb, List, [], ◌∷◌, length, take, drop, refl, sym, ap, subst, arith, inl, inr}
+use Rattle.std.proofs.Common.{◌≡◌, ℕ, suc, ◌+◌, ◌≤◌, ◌⊎◌, Bool, true, false, cond, ◌&&◌, ◌||◌, eqb, List, [], ◌∷◌, length, take, drop, refl, sym, subst, arith, inl, inr}
 use Rattle.std.specs.List.{prefix_len}
-use Rattle.std.proofs.lemmas.Bool.{cases_Bool, or_cases, and_parts, eqb-true, false≢true}
-use Rattle.std.proofs.lemmas.List.{length-take-le}
+use Rattle.std.proofs.lemmas.Bool.{cases_Bool, and_parts, false≢true}
 use Rattle.std.proofs.lemmas.List.Sums.{prefix_len-le-length}
 use Rattle.luf_byte.specs.Class.{is_hex_digit, is_line_byte, is_letter, is_word_byte, is_blank, in_line}
 use Rattle.luf_num.specs.Numeral.{is_decimal_mark, is_binary_mark}
@@ -21,7 +20,6 @@ use Rattle.luf_lex.specs.declared.fault.LexWhat.TheVariants.{NoToken, BadEscape,
 use Rattle.luf_lex.specs.declared.token.Tok.TheVariants.{Short, Long}
 use Rattle.luf_lex.specs.declared.token.Kind.{Kind}
 use Rattle.luf_lex.specs.declared.token.Kind.TheVariants.{Token}
-use Rattle.luf_lex.proofs.Decided.{Decided, same_or_not}
 use Rattle.luf_lex.proofs.RunLemmas.{front_passes, passing_front}
 use Rattle.luf_lex.proofs.PlainLemmas.{keyword_first, name_first, blank_first, line_end_first, sign_first, none_first}
 use Rattle.luf_lex.proofs.WordsAndSigns.{keyword_or_not, longest_sign, sign_few}

@@ -4,7 +4,6 @@ use Rattle.std.specs.Str.{byte}
 use Rattle.luf_byte.specs.Class.{is_digit, is_hex_digit, is_letter}
 use Rattle.luf_num.specs.Numeral.{is_decimal_mark, is_binary_mark, HasNumeralForm}
 use Rattle.luf_str.specs.Bytes.{is_quote}
-use Rattle.luf_str.specs.Spelling.{IsLongSpelling}
 use Rattle.luf_str.specs.ShortEnd.{IsShortEnd}
 use Rattle.luf_str.specs.declared.ends.ShortEnd.TheVariants as end
 use Rattle.luf_byte.specs.Front.{begins}

@@ -1,6 +1,6 @@
 -- How a piece of each kind may be spelled: a test of a whole piece (Lua 5.4 manual, 3.1).
-use Rattle.std.specs.Prelude.{◌≡◌, ℕ, ◌⊎◌, Bool, false, ◌==◌, ◌&&◌, List, [], ◌∷◌, ◌++◌, drop, codes, IsTrue, IsFalse}
-use Rattle.std.specs.List.{list_all, prefix_len}
+use Rattle.std.specs.Prelude.{◌≡◌, ℕ, ◌⊎◌, Bool, ◌==◌, List, [], ◌∷◌, ◌++◌, codes, IsTrue, IsFalse}
+use Rattle.std.specs.List.{list_all}
 use Rattle.std.specs.Str.{byte}
 use Rattle.luf_num.specs.Numeral.{HasNumeralForm}
 use Rattle.luf_str.specs.Spelling.{IsLongSpelling}
