@@ -3,10 +3,10 @@ ghost use Rattle.std.specs.Prelude.{◌≡◌, ℕ, ◌+◌, ◌*◌, ◌^◌, �
 ghost use Rattle.std.specs.List.{list_all};
 ghost use Rattle.luf_num.specs.inner.Base.{is_digit_in, is_mark_in, radix_of};
 ghost use Rattle.luf_byte.specs.Class.{is_digit, is_hex_digit};
-ghost use Rattle.std.specs.Str.Parse.{digits_value};
+ghost use Rattle.std.specs.Str.Parse.{digits_value, digits_value_after};
 ghost use Rattle.luf_num.specs.Float.{Scaled, IsFloat, IsDecimalScaled, IsScaled, IsScaledInteger, IsInReach, raised, lowered};
 ghost use Rattle.luf_num.specs.Numeral.{IsDigits, IsExponent, is_binary_mark};
-ghost use Rattle.luf_num.specs.inner.FloatParts.{value_from, value_of_parts};
+ghost use Rattle.luf_num.specs.inner.FloatParts.{value_of_parts};
 ghost use Rattle.luf_num.specs.Word.{IsFloatWord, IsNearest, IsWord};
 
 use crate::form::{Base, Parts, float_parts, has_hex_prefix, is_digits, split_sign};
@@ -21,8 +21,8 @@ fn digits_below(base: Base, so_far: u128, digits: &[u8], limit: u128) -> Option<
     requires digits { IsTrue (list_all (is_digit_in base) digits.now) }
     requires start { so_far < limit }
     requires limit { limit ≤ 2 ^ 100 }
-    ensures { MatchOption result (limit ≤ value_from (radix_of base) so_far digits.now)
-        (λ n. (n ≡ value_from (radix_of base) so_far digits.now) × (n < limit)) }
+    ensures { MatchOption result (limit ≤ digits_value_after (radix_of base) so_far digits.now)
+        (λ n. (n ≡ digits_value_after (radix_of base) so_far digits.now) × (n < limit)) }
 {
     let mut value = so_far;
     for digit in digits {

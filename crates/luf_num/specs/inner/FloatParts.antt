@@ -1,6 +1,5 @@
 -- The parts of a float, and the value that they give. Cited by private functions alone.
-use Rattle.std.specs.Prelude.{◌≡◌, ℕ, ◌+◌, ◌*◌, Bool, List, [], ◌++◌, length, fold}
-use Rattle.std.specs.Char.{digit_value}
+use Rattle.std.specs.Prelude.{◌≡◌, ℕ, ◌+◌, ◌*◌, Bool, List, [], ◌++◌, length}
 use Rattle.luf_num.specs.inner.Base.{exponent_base_of, places_of, radix_of}
 use Rattle.std.specs.Str.Parse.{digits_value}
 use Rattle.luf_num.specs.Float.{Scaled, raised, lowered}
@@ -14,10 +13,6 @@ pub record HasParts (digit mark : ℕ → Bool) (s whole fraction exponent : Lis
   pub fraction_is : form.fraction ≡ fraction
   pub exponent_is : form.exponent ≡ exponent
   pub behind_point : form.point ≡ [] → form.fraction ≡ []
-
--- the number that digits write behind a number so far
-abbrev pub value_from : ℕ → ℕ → List ℕ → ℕ
-value_from radix so_far digits = fold (λ value digit. value * radix + digit_value digit) so_far digits
 
 -- the value of a float with these parts
 abbrev pub value_of_parts : Base → List ℕ → List ℕ → List ℕ → Scaled
