@@ -51,22 +51,25 @@ pub ok_form : {A E : Type 0} {P Q : A → Type 0} (r : Result A E) → ((y : A) 
 ok_form (Ok x) f h = alone_form f h
 ok_form (Err x) f h = cc
 
-pub err_form : {toks : List Tok} {R A : Type 0} {P Q : A → Type 0} (r : Result R ParseErr) → ((y : A) → P y → Q y) → IfErr r (Refutes toks Q) → IfErr r (Refutes toks P)
-err_form (Ok x) f h = cc
-err_form (Err x) f h = refutes_form f h
+pub err_form : (toks : List Tok) {R A : Type 0} {P Q : A → Type 0} (r : Result R ParseErr) → ((y : A) → P y → Q y) → IfErr r (Refutes toks Q) → IfErr r (Refutes toks P)
+err_form toks (Ok x) f h = cc
+err_form toks (Err x) f h = refutes_form f h
 
 -- a part that stands in a box is the part
 pub alone_boxed : {A B : Type 0} (f : A → B) {x box : A} → box ≡ x → Alone (λ y. y ≡ f x) (f box)
 alone_boxed f e = alone_is (ap f (sym e))
 
 -- what a call makes, where it finds memory
-pub ok_made : {A E : Type 0} {P : A → Type 0} {v : A} (r : Result A E) → IfOk r (λ x. x ≡ v) → P v → IfOk r P
-ok_made {P = P} (Ok x) e h = subst P (sym e) h
-ok_made (Err x) e h = cc
+pub ok_made : {A E : Type 0} (P : A → Type 0) {v : A} (r : Result A E) → IfOk r (λ x. x ≡ v) → P v → IfOk r P
+ok_made P (Ok x) e h = subst P (sym e) h
+ok_made P (Err x) e h = cc
 
-pub err_made : {toks : List Tok} {R A : Type 0} {P : A → Type 0} (r : Result R ParseErr) → IfErr r (λ e. e ≡ error.Memory) → IfErr r (Refutes toks P)
-err_made (Ok x) e = cc
-err_made {toks} {P = P} (Err x) e = subst (Refutes toks P) (sym e) (record { token = tt; nothing = λ known y h. known refl })
+pub only_made : {A E : Type 0} {Q : A → Type 0} {v : A} (r : Result A E) → IfOk r (λ x. x ≡ v) → Alone Q v → IfOk r (Alone Q)
+only_made {Q = Q} r e h = ok_made (Alone Q) r e h
+
+pub err_made : {R A : Type 0} (toks : List Tok) (P : A → Type 0) (r : Result R ParseErr) → IfErr r (λ e. e ≡ error.Memory) → IfErr r (Refutes toks P)
+err_made toks P (Ok x) e = cc
+err_made toks P (Err x) e = subst (Refutes toks P) (sym e) (record { token = tt; nothing = λ known y h. known refl })
 
 -- one token stands at a place, and ends at one
 pub token_only : {toks : List Tok} {i j : ℕ} {t : Tok} → IsToken toks i t j → Alone (IsToken toks i t) j

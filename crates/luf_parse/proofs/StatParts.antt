@@ -35,14 +35,14 @@ empty_found {toks} {i} {j} {left} t w =
     let n = t.next in record { derived = g.empty_stat t; forward = omega arith; within = omega arith; level = omega (arith, lv.empty_levels i j) }
 
 -- a block that a token enters, and its `end`
-pub ended_found : {toks : List Tok} {i j k left inner : ℕ} {body box : Block}
+pub ended_found : {toks : List Tok} {i k left inner : ℕ} {body box : Block}
     → left ≡ inner + 1
-    → Found toks i j inner (block_levels body) (IsBlock toks i j body)
-    → IsToken toks j (Word word.End) k
+    → Found toks i (out-Block body).to inner (block_levels body) (IsBlock toks i (out-Block body).to body)
+    → IsToken toks (out-Block body).to (Word word.End) k
     → k ≤ length toks
     → box ≡ body
     → Found toks (i + 1) k left (block_levels box + 1) (IsBlock toks i (out-Block box).to box × IsToken toks (out-Block box).to (Word word.End) k)
-ended_found {toks} {i} {j} {k} {left} {inner} {body} {box} lev h t w e0 =
+ended_found {toks} {i} {k} {left} {inner} {body} {box} lev h t w e0 =
     subst (λ (z : Block). Found toks (i + 1) k left (block_levels z + 1) (IsBlock toks i (out-Block z).to z × IsToken toks (out-Block z).to (Word word.End) k)) (sym e0)
     (let n = t.next in record { derived = (h.derived, t); forward = omega arith; within = w; level = omega arith })
 
