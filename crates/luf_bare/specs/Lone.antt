@@ -2,7 +2,7 @@
 use Rattle.std.specs.Prelude.{Bool, true, false}
 use Rattle.luf_tree.specs.Syntax as syntax
 
--- a string or a table
+-- a string or a table: what may stand alone
 abbrev pub is_lone_item : {K : syntax.Shape} → syntax.Expression K → Bool
 is_lone_item (syntax.string _ _) = true
 is_lone_item (syntax.table _ _) = true
