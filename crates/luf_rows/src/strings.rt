@@ -20,10 +20,13 @@ fn string_in<'a>(rt: &impl Abort, cut: &Cut, src: &'a [u8]) -> &'a [u8]
     let Some(spelling) = cut.spelling(src, 0) else {
         panic!(rt; "{src:?} has no token");
     };
-    match cut.token(0) {
-        Some(Tok::Short) | Some(Tok::Long) => spelling,
-        _ => panic!(rt; "{src:?} is no string"),
+    if cut.is_at(0, Tok::Short) {
+        return spelling;
     }
+    if cut.is_at(0, Tok::Long) {
+        return spelling;
+    }
+    panic!(rt; "{src:?} is no string")
 }
 
 /// Appends the value to what stands there already.

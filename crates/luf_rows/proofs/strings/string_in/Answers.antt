@@ -1,4 +1,4 @@
-use Rattle.std.proofs.Common.{◌≡◌, ℕ, inl, inr, List, Some, sym, subst}
+use Rattle.std.proofs.Common.{◌≡◌, ℕ, inl, inr, List, Some, refl, sym, subst}
 use Rattle.std.specs.Prelude.{slice_get}
 use Rattle.luf_str.proofs.Apart.{short_is_spelled}
 use Rattle.luf_lex.specs.Cut.{IsCut}
@@ -18,10 +18,10 @@ first_spelled source pieces cut t a tok found =
     let same : at.0 ≡ t = cc (at.1, tok) in
     subst (λ (u : Tok). Spells (Token u) a) same at.2
 
-pub returns-in-Some-Short : goal.returns-in-Some-Short
-returns-in-Some-Short g c =
-    let short = first_spelled c.args.src.now c.args.cut.now c.requires Short c.in-Some.spelling.now c.in-Some-Short.ensures c.in-Some.ensures in
+pub returns-then-is_at : goal.returns-then-is_at
+returns-then-is_at g c =
+    let short = first_spelled c.args.src.now c.args.cut.now c.requires Short c.in-Some.spelling.now (sym (c.if-is_at.ensures.0 refl)) c.in-Some.ensures in
     inl (short_is_spelled c.in-Some.spelling.now short.0 short.1)
 
-pub returns-in-Some-Short-2 : goal.returns-in-Some-Short-2
-returns-in-Some-Short-2 g c = inr (first_spelled c.args.src.now c.args.cut.now c.requires Long c.in-Some.spelling.now c.in-Some-Short-2.ensures c.in-Some.ensures)
+pub returns-then-is_at-2 : goal.returns-then-is_at-2
+returns-then-is_at-2 g c = inr (first_spelled c.args.src.now c.args.cut.now c.requires Long c.in-Some.spelling.now (sym (c.if-is_at-2.ensures.0 refl)) c.in-Some.ensures)
