@@ -1,0 +1,82 @@
+//! The listing of a function with all inside it.
+ghost use Rattle.std.specs.Prelude.{◌≡◌, ◌++◌, map, string_bytes, IfOk, OnOk, OnErr};
+ghost use Rattle.luf_list.specs.Listing.{head_line, inner_listings, listing, listing_at, own_lines, upvalue_line, upvalue_lines};
+ghost use Rattle.luf_proto.specs.FunctionOf.{function_of, functions_of};
+ghost use Rattle.luf_proto.specs.declared.proto.Proto.{out-Proto};
+
+use crate::code::write_code;
+use crate::constants::write_constants;
+use luf_memory::Memory;
+use luf_proto::{Proto, Upval};
+use std::alloc::{AllocError, Global};
+
+/// Appends the listing of a main function. The only error is that no memory was found; then `into` is as it was.
+pub fn list(alloc: Global, p: &Proto, into: &mut Vec<u8>) -> Result<(), Memory>
+    ensures ok { OnOk result (into.new.items ≡ into.old.items ++ listing (function_of p.now)) }
+    ensures err { OnErr result (into.new.items ≡ into.old.items) }
+{
+    let mut text = Vec::new(alloc);
+    write_function(alloc, "0", p, &mut text)?;
+    into.append(&mut text)?;
+    Ok(())
+}
+
+#[cycle(functions)]
+fn write_function(alloc: Global, path: &str, p: &Proto, into: &mut Vec<u8>) -> Result<(), Memory>
+    ensures { OnOk result (into.new.items ≡ into.old.items ++ listing_at path.now (function_of p.now)) }
+{
+    write_own(alloc, path, p, into)?;
+    write_inner(alloc, path, p.subs.as_slice(), into)
+}
+
+#[cycle(functions)]
+fn write_inner(alloc: Global, path: &str, subs: &[Proto], into: &mut Vec<u8>) -> Result<(), Memory>
+    ensures { OnOk result (into.new.items ≡ into.old.items ++ inner_listings path.now 0 (functions_of (map function_of subs.now))) }
+{
+    for (index, sub) in subs.iter().enumerate() {
+        let inner = format!(in alloc; "{path}.{index}")?;
+        write_function(alloc, inner.as_str(), sub, into)?;
+    }
+    Ok(())
+}
+
+/// Appends what a function has itself.
+fn write_own(alloc: Global, path: &str, p: &Proto, into: &mut Vec<u8>) -> Result<(), Memory>
+    ensures { OnOk result (into.new.items ≡ into.old.items ++ own_lines path.now (out-Proto p.now).numparams (out-Proto p.now).is_vararg (out-Proto p.now).maxstack (out-Proto p.now).code (out-Proto p.now).consts (out-Proto p.now).upvals (out-Proto p.now).line_from (out-Proto p.now).line_to) }
+{
+    write_head(alloc, path, p, into)?;
+    write_code(alloc, p.code.as_slice(), into)?;
+    write_constants(alloc, p.consts.as_slice(), into)?;
+    write_upvals(alloc, p.upvals.as_slice(), into)
+}
+
+fn write_head(alloc: Global, path: &str, p: &Proto, into: &mut Vec<u8>) -> Result<(), Memory>
+    ensures { OnOk result (into.new.items ≡ into.old.items ++ head_line path.now (out-Proto p.now).numparams (out-Proto p.now).is_vararg (out-Proto p.now).maxstack (out-Proto p.now).line_from (out-Proto p.now).line_to) }
+{
+    let numparams = p.numparams;
+    let vararg = u8::from(p.is_vararg);
+    let maxstack = p.maxstack;
+    let from = p.line_from;
+    let to = p.line_to;
+    let line = format!(in alloc; "function {path} params {numparams} vararg {vararg} stack {maxstack} lines {from} {to}\n")?;
+    into.extend_from_slice(line.as_bytes())?;
+    Ok(())
+}
+
+fn write_upvals(alloc: Global, upvals: &[Upval], into: &mut Vec<u8>) -> Result<(), Memory>
+    ensures { OnOk result (into.new.items ≡ into.old.items ++ upvalue_lines 0 upvals.now) }
+{
+    for (index, upval) in upvals.iter().enumerate() {
+        let line = upvalue_line(alloc, index, *upval)?;
+        into.extend_from_slice(line.as_bytes())?;
+    }
+    Ok(())
+}
+
+fn upvalue_line(alloc: Global, index: usize, upval: Upval) -> Result<String, AllocError>
+    ensures { IfOk result (λ line. string_bytes line ≡ upvalue_line index upval) }
+{
+    let Upval { instack, idx, kind } = upval;
+    let instack = u8::from(instack);
+    format!(in alloc; "u {index} {instack} {idx} {kind}\n")
+}

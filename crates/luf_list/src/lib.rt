@@ -1,0 +1,9 @@
+//! The listing of a function: its code, its constants and its upvalues, a line for each, and the functions inside.
+#![tactic(auto)]
+
+mod code;
+mod constants;
+mod functions;
+
+pub use functions::list;
+pub use luf_memory::Memory;
