@@ -1,10 +1,10 @@
 -- The listing of a function (our own rule). Numbers are in decimal, positions and indexes count from 0, and each line
 -- ends in LF.
-use Rattle.std.specs.Prelude.{ℕ, ◌+◌, ◌*◌, ◌/◌, ◌%◌, ◌^◌, suc, zero, Bool, true, false, ◌==◌, ◌||◌, ◌&&◌, nat_lt, nat_le, List, [], ◌∷◌, ◌++◌, codes, decimal, Option, Some, None, if◌then◌else◌}
+use Rattle.std.specs.Prelude.{ℕ, ◌+◌, ◌*◌, ◌/◌, ◌%◌, ◌^◌, suc, zero, ℤ, Bool, true, false, ◌==◌, ◌||◌, ◌&&◌, nat_lt, nat_le, List, [], ◌∷◌, ◌++◌, codes, decimal, Option, Some, None, if◌then◌else◌}
 use Rattle.std.specs.List.{flat_map}
 use Rattle.std.specs.Fmt.{signed_decimal}
 use Rattle.luf_ops.specs.Operation.{name_of}
-use Rattle.luf_ops.specs.Instruction.{bit, instruction_of}
+use Rattle.luf_ops.specs.Instruction.{bit, instruction_of, op_of}
 use Rattle.luf_ops.specs.declared.instr.Instr.{Instr}
 use Rattle.luf_ops.specs.declared.instr.Instr.TheVariants as instr
 use Rattle.luf_proto.specs.Function.{Function, Functions, function, no_functions, more_functions}
@@ -26,13 +26,34 @@ hex (suc place) n = hex_digit (n / 2 ^ (4 * place) % 2 ^ 4) ∷ hex place n
 -- ---- code
 
 -- an instruction: its position, the name of its operation and its operands, with k where it is 1
+abbrev pub abck_line : ℕ → List ℕ → ℕ → ℕ → ℕ → List ℕ
+abck_line position name a b c = decimal position ++ codes " " ++ name ++ codes " " ++ decimal a ++ codes " " ++ decimal b ++ codes " " ++ decimal c ++ codes " k" ++ line_end
+
+abbrev pub abc_line : ℕ → List ℕ → ℕ → ℕ → ℕ → List ℕ
+abc_line position name a b c = decimal position ++ codes " " ++ name ++ codes " " ++ decimal a ++ codes " " ++ decimal b ++ codes " " ++ decimal c ++ line_end
+
+abbrev pub abx_line : ℕ → List ℕ → ℕ → ℕ → List ℕ
+abx_line position name a bx = decimal position ++ codes " " ++ name ++ codes " " ++ decimal a ++ codes " " ++ decimal bx ++ line_end
+
+abbrev pub asbx_line : ℕ → List ℕ → ℕ → ℤ → List ℕ
+asbx_line position name a sbx = decimal position ++ codes " " ++ name ++ codes " " ++ decimal a ++ codes " " ++ signed_decimal sbx ++ line_end
+
+abbrev pub ax_line : ℕ → List ℕ → ℕ → List ℕ
+ax_line position name ax = decimal position ++ codes " " ++ name ++ codes " " ++ decimal ax ++ line_end
+
+abbrev pub sj_line : ℕ → List ℕ → ℤ → List ℕ
+sj_line position name sj = decimal position ++ codes " " ++ name ++ codes " " ++ signed_decimal sj ++ line_end
+
+abbrev pub named_line : ℕ → List ℕ → Instr → List ℕ
+named_line position name (instr.Abc op a true b c) = abck_line position name a b c
+named_line position name (instr.Abc op a false b c) = abc_line position name a b c
+named_line position name (instr.Abx op a bx) = abx_line position name a bx
+named_line position name (instr.Asbx op a sbx) = asbx_line position name a sbx
+named_line position name (instr.Ax op ax) = ax_line position name ax
+named_line position name (instr.Sj op sj) = sj_line position name sj
+
 abbrev pub instruction_line : ℕ → Instr → List ℕ
-instruction_line position (instr.Abc op a true b c) = decimal position ++ codes " " ++ name_of op ++ codes " " ++ decimal a ++ codes " " ++ decimal b ++ codes " " ++ decimal c ++ codes " k" ++ line_end
-instruction_line position (instr.Abc op a false b c) = decimal position ++ codes " " ++ name_of op ++ codes " " ++ decimal a ++ codes " " ++ decimal b ++ codes " " ++ decimal c ++ line_end
-instruction_line position (instr.Abx op a bx) = decimal position ++ codes " " ++ name_of op ++ codes " " ++ decimal a ++ codes " " ++ decimal bx ++ line_end
-instruction_line position (instr.Asbx op a sbx) = decimal position ++ codes " " ++ name_of op ++ codes " " ++ decimal a ++ codes " " ++ signed_decimal sbx ++ line_end
-instruction_line position (instr.Ax op ax) = decimal position ++ codes " " ++ name_of op ++ codes " " ++ decimal ax ++ line_end
-instruction_line position (instr.Sj op sj) = decimal position ++ codes " " ++ name_of op ++ codes " " ++ signed_decimal sj ++ line_end
+instruction_line position i = named_line position (name_of (op_of i)) i
 
 -- a word that is no instruction is listed as it is
 abbrev pub code_line : ℕ → ℕ → Option Instr → List ℕ
@@ -77,24 +98,24 @@ constant_lines index (c ∷ cs) = (codes "k " ++ decimal index ++ codes " " ++ c
 
 -- ---- upvalues: where it is found, and its kind
 
-abbrev pub upvalue_line : ℕ → Upval → List ℕ
-upvalue_line index u = codes "u " ++ decimal index ++ codes " " ++ decimal (bit u.instack) ++ codes " " ++ decimal u.idx ++ codes " " ++ decimal u.kind ++ line_end
+abbrev pub upvalue_line : ℕ → ℕ → ℕ → ℕ → List ℕ
+upvalue_line index instack idx kind = codes "u " ++ decimal index ++ codes " " ++ decimal instack ++ codes " " ++ decimal idx ++ codes " " ++ decimal kind ++ line_end
 
 -- from an index on
 abbrev pub upvalue_lines : ℕ → List Upval → List ℕ
 upvalue_lines index [] = []
-upvalue_lines index (u ∷ us) = upvalue_line index u ++ upvalue_lines (index + 1) us
+upvalue_lines index (u ∷ us) = upvalue_line index (bit u.instack) u.idx u.kind ++ upvalue_lines (index + 1) us
 
 -- ---- functions: the path of an inner one is that of the outer, a point and its index
 
-abbrev pub head_line : List ℕ → ℕ → Bool → ℕ → ℕ → ℕ → List ℕ
+abbrev pub head_line : List ℕ → ℕ → ℕ → ℕ → ℕ → ℕ → List ℕ
 head_line path parameters vararg registers line_from line_to =
-    codes "function " ++ path ++ codes " params " ++ decimal parameters ++ codes " vararg " ++ decimal (bit vararg) ++ codes " stack " ++ decimal registers ++ codes " lines " ++ decimal line_from ++ codes " " ++ decimal line_to ++ line_end
+    codes "function " ++ path ++ codes " params " ++ decimal parameters ++ codes " vararg " ++ decimal vararg ++ codes " stack " ++ decimal registers ++ codes " lines " ++ decimal line_from ++ codes " " ++ decimal line_to ++ line_end
 
 -- the lines of a function itself
 abbrev pub own_lines : List ℕ → ℕ → Bool → ℕ → List ℕ → List Const → List Upval → ℕ → ℕ → List ℕ
 own_lines path parameters vararg registers code constants upvalues line_from line_to =
-    head_line path parameters vararg registers line_from line_to
+    head_line path parameters (bit vararg) registers line_from line_to
     ++ code_lines 0 code ++ constant_lines 0 constants ++ upvalue_lines 0 upvalues
 
 abbrev mutual

@@ -1,10 +1,10 @@
 //! The lines of code.
 ghost use Rattle.std.specs.Prelude.{◌≡◌, ◌++◌, ◌<◌, ◌≤◌, string_bytes, IfOk, None, OnOk};
-ghost use Rattle.luf_list.specs.Listing.{code_line, code_lines, hex, hex_digit, instruction_line};
+ghost use Rattle.luf_list.specs.Listing.{abc_line, abck_line, abx_line, asbx_line, ax_line, code_line, code_lines, hex, hex_digit, instruction_line, named_line, sj_line};
 
 use luf_memory::Memory;
 use luf_ops::Instr;
-use std::alloc::{AllocError, Global};
+use std::alloc::Global;
 
 pub(crate) fn write_code(alloc: Global, code: &[u32], into: &mut Vec<u8>) -> Result<(), Memory>
     ensures { OnOk result (into.new.items ≡ into.old.items ++ code_lines 0 code.now) }
@@ -22,35 +22,65 @@ pub(crate) fn write_code(alloc: Global, code: &[u32], into: &mut Vec<u8>) -> Res
 }
 
 /// The line of an instruction.
-fn instruction_line(alloc: Global, position: usize, i: Instr) -> Result<String, AllocError>
+fn instruction_line(alloc: Global, position: usize, i: Instr) -> Result<String, Memory>
     ensures { IfOk result (λ line. string_bytes line ≡ instruction_line position i) }
 {
+    named_line(alloc, position, i.op().name(), i)
+}
+
+/// The line of an instruction, with the name of its operation.
+fn named_line(alloc: Global, position: usize, name: &str, i: Instr) -> Result<String, Memory>
+    ensures { IfOk result (λ line. string_bytes line ≡ named_line position name.now i) }
+{
     match i {
-        Instr::Abc { op, a, k, b, c } => {
-            let name = op.name();
+        Instr::Abc { a, k, b, c, .. } => {
             if k {
-                format!(in alloc; "{position} {name} {a} {b} {c} k\n")
+                abck_line(alloc, position, name, a, b, c)
             } else {
-                format!(in alloc; "{position} {name} {a} {b} {c}\n")
+                abc_line(alloc, position, name, a, b, c)
             }
         }
-        Instr::Abx { op, a, bx } => {
-            let name = op.name();
-            format!(in alloc; "{position} {name} {a} {bx}\n")
-        }
-        Instr::Asbx { op, a, sbx } => {
-            let name = op.name();
-            format!(in alloc; "{position} {name} {a} {sbx}\n")
-        }
-        Instr::Ax { op, ax } => {
-            let name = op.name();
-            format!(in alloc; "{position} {name} {ax}\n")
-        }
-        Instr::Sj { op, sj } => {
-            let name = op.name();
-            format!(in alloc; "{position} {name} {sj}\n")
-        }
+        Instr::Abx { a, bx, .. } => abx_line(alloc, position, name, a, bx),
+        Instr::Asbx { a, sbx, .. } => asbx_line(alloc, position, name, a, sbx),
+        Instr::Ax { ax, .. } => ax_line(alloc, position, name, ax),
+        Instr::Sj { sj, .. } => sj_line(alloc, position, name, sj),
     }
+}
+
+fn abck_line(alloc: Global, position: usize, name: &str, a: u8, b: u8, c: u8) -> Result<String, Memory>
+    ensures { IfOk result (λ line. string_bytes line ≡ abck_line position name.now a b c) }
+{
+    Ok(format!(in alloc; "{position} {name} {a} {b} {c} k\n")?)
+}
+
+fn abc_line(alloc: Global, position: usize, name: &str, a: u8, b: u8, c: u8) -> Result<String, Memory>
+    ensures { IfOk result (λ line. string_bytes line ≡ abc_line position name.now a b c) }
+{
+    Ok(format!(in alloc; "{position} {name} {a} {b} {c}\n")?)
+}
+
+fn abx_line(alloc: Global, position: usize, name: &str, a: u8, bx: u32) -> Result<String, Memory>
+    ensures { IfOk result (λ line. string_bytes line ≡ abx_line position name.now a bx) }
+{
+    Ok(format!(in alloc; "{position} {name} {a} {bx}\n")?)
+}
+
+fn asbx_line(alloc: Global, position: usize, name: &str, a: u8, sbx: i32) -> Result<String, Memory>
+    ensures { IfOk result (λ line. string_bytes line ≡ asbx_line position name.now a sbx) }
+{
+    Ok(format!(in alloc; "{position} {name} {a} {sbx}\n")?)
+}
+
+fn ax_line(alloc: Global, position: usize, name: &str, ax: u32) -> Result<String, Memory>
+    ensures { IfOk result (λ line. string_bytes line ≡ ax_line position name.now ax) }
+{
+    Ok(format!(in alloc; "{position} {name} {ax}\n")?)
+}
+
+fn sj_line(alloc: Global, position: usize, name: &str, sj: i32) -> Result<String, Memory>
+    ensures { IfOk result (λ line. string_bytes line ≡ sj_line position name.now sj) }
+{
+    Ok(format!(in alloc; "{position} {name} {sj}\n")?)
 }
 
 /// Appends the line of a word that is no instruction.

@@ -1,6 +1,7 @@
 //! The listing of a function with all inside it.
 ghost use Rattle.std.specs.Prelude.{◌≡◌, ◌++◌, map, string_bytes, IfOk, OnOk, OnErr};
 ghost use Rattle.luf_list.specs.Listing.{head_line, inner_listings, listing, listing_at, own_lines, upvalue_line, upvalue_lines};
+ghost use Rattle.luf_ops.specs.Instruction.{bit};
 ghost use Rattle.luf_proto.specs.FunctionOf.{function_of, functions_of};
 ghost use Rattle.luf_proto.specs.declared.proto.Proto.{out-Proto};
 
@@ -8,7 +9,7 @@ use crate::code::write_code;
 use crate::constants::write_constants;
 use luf_memory::Memory;
 use luf_proto::{Proto, Upval};
-use std::alloc::{AllocError, Global};
+use std::alloc::Global;
 
 /// Appends the listing of a main function. The only error is that no memory was found; then `into` is as it was.
 pub fn list(alloc: Global, p: &Proto, into: &mut Vec<u8>) -> Result<(), Memory>
@@ -51,32 +52,33 @@ fn write_own(alloc: Global, path: &str, p: &Proto, into: &mut Vec<u8>) -> Result
 }
 
 fn write_head(alloc: Global, path: &str, p: &Proto, into: &mut Vec<u8>) -> Result<(), Memory>
-    ensures { OnOk result (into.new.items ≡ into.old.items ++ head_line path.now (out-Proto p.now).numparams (out-Proto p.now).is_vararg (out-Proto p.now).maxstack (out-Proto p.now).line_from (out-Proto p.now).line_to) }
+    ensures { OnOk result (into.new.items ≡ into.old.items ++ head_line path.now (out-Proto p.now).numparams (bit (out-Proto p.now).is_vararg) (out-Proto p.now).maxstack (out-Proto p.now).line_from (out-Proto p.now).line_to) }
 {
-    let numparams = p.numparams;
     let vararg = u8::from(p.is_vararg);
-    let maxstack = p.maxstack;
-    let from = p.line_from;
-    let to = p.line_to;
-    let line = format!(in alloc; "function {path} params {numparams} vararg {vararg} stack {maxstack} lines {from} {to}\n")?;
+    let line = head_line(alloc, path, p.numparams, vararg, p.maxstack, p.line_from, p.line_to)?;
     into.extend_from_slice(line.as_bytes())?;
     Ok(())
+}
+
+fn head_line(alloc: Global, path: &str, params: u8, vararg: u8, stack: u8, from: u32, to: u32) -> Result<String, Memory>
+    ensures { IfOk result (λ line. string_bytes line ≡ head_line path.now params vararg stack from to) }
+{
+    Ok(format!(in alloc; "function {path} params {params} vararg {vararg} stack {stack} lines {from} {to}\n")?)
 }
 
 fn write_upvals(alloc: Global, upvals: &[Upval], into: &mut Vec<u8>) -> Result<(), Memory>
     ensures { OnOk result (into.new.items ≡ into.old.items ++ upvalue_lines 0 upvals.now) }
 {
     for (index, upval) in upvals.iter().enumerate() {
-        let line = upvalue_line(alloc, index, *upval)?;
+        let instack = u8::from(upval.instack);
+        let line = upvalue_line(alloc, index, instack, upval.idx, upval.kind)?;
         into.extend_from_slice(line.as_bytes())?;
     }
     Ok(())
 }
 
-fn upvalue_line(alloc: Global, index: usize, upval: Upval) -> Result<String, AllocError>
-    ensures { IfOk result (λ line. string_bytes line ≡ upvalue_line index upval) }
+fn upvalue_line(alloc: Global, index: usize, instack: u8, idx: u8, kind: u8) -> Result<String, Memory>
+    ensures { IfOk result (λ line. string_bytes line ≡ upvalue_line index instack idx kind) }
 {
-    let Upval { instack, idx, kind } = upval;
-    let instack = u8::from(instack);
-    format!(in alloc; "u {index} {instack} {idx} {kind}\n")
+    Ok(format!(in alloc; "u {index} {instack} {idx} {kind}\n")?)
 }
