@@ -26,11 +26,14 @@ hex (suc place) n = hex_digit (n / 2 ^ (4 * place) % 2 ^ 4) ∷ hex place n
 -- ---- code
 
 -- an instruction: its position, the name of its operation and its operands, with k where it is 1
-abbrev pub abck_line : ℕ → List ℕ → ℕ → ℕ → ℕ → List ℕ
-abck_line position name a b c = decimal position ++ codes " " ++ name ++ codes " " ++ decimal a ++ codes " " ++ decimal b ++ codes " " ++ decimal c ++ codes " k" ++ line_end
+abbrev pub line_front : ℕ → List ℕ → ℕ → List ℕ
+line_front position name a = decimal position ++ codes " " ++ name ++ codes " " ++ decimal a
 
-abbrev pub abc_line : ℕ → List ℕ → ℕ → ℕ → ℕ → List ℕ
-abc_line position name a b c = decimal position ++ codes " " ++ name ++ codes " " ++ decimal a ++ codes " " ++ decimal b ++ codes " " ++ decimal c ++ line_end
+abbrev pub abck_line : List ℕ → ℕ → ℕ → List ℕ
+abck_line front b c = front ++ codes " " ++ decimal b ++ codes " " ++ decimal c ++ codes " k" ++ line_end
+
+abbrev pub abc_line : List ℕ → ℕ → ℕ → List ℕ
+abc_line front b c = front ++ codes " " ++ decimal b ++ codes " " ++ decimal c ++ line_end
 
 abbrev pub abx_line : ℕ → List ℕ → ℕ → ℕ → List ℕ
 abx_line position name a bx = decimal position ++ codes " " ++ name ++ codes " " ++ decimal a ++ codes " " ++ decimal bx ++ line_end
@@ -45,8 +48,8 @@ abbrev pub sj_line : ℕ → List ℕ → ℤ → List ℕ
 sj_line position name sj = decimal position ++ codes " " ++ name ++ codes " " ++ signed_decimal sj ++ line_end
 
 abbrev pub named_line : ℕ → List ℕ → Instr → List ℕ
-named_line position name (instr.Abc op a true b c) = abck_line position name a b c
-named_line position name (instr.Abc op a false b c) = abc_line position name a b c
+named_line position name (instr.Abc op a true b c) = abck_line (line_front position name a) b c
+named_line position name (instr.Abc op a false b c) = abc_line (line_front position name a) b c
 named_line position name (instr.Abx op a bx) = abx_line position name a bx
 named_line position name (instr.Asbx op a sbx) = asbx_line position name a sbx
 named_line position name (instr.Ax op ax) = ax_line position name ax
@@ -108,14 +111,16 @@ upvalue_lines index (u ∷ us) = upvalue_line index (bit u.instack) u.idx u.kind
 
 -- ---- functions: the path of an inner one is that of the outer, a point and its index
 
-abbrev pub head_line : List ℕ → ℕ → ℕ → ℕ → ℕ → ℕ → List ℕ
-head_line path parameters vararg registers line_from line_to =
-    codes "function " ++ path ++ codes " params " ++ decimal parameters ++ codes " vararg " ++ decimal vararg ++ codes " stack " ++ decimal registers ++ codes " lines " ++ decimal line_from ++ codes " " ++ decimal line_to ++ line_end
+abbrev pub head_front : List ℕ → ℕ → ℕ → List ℕ
+head_front path parameters vararg = codes "function " ++ path ++ codes " params " ++ decimal parameters ++ codes " vararg " ++ decimal vararg
+
+abbrev pub head_line : List ℕ → ℕ → ℕ → ℕ → List ℕ
+head_line front registers line_from line_to = front ++ codes " stack " ++ decimal registers ++ codes " lines " ++ decimal line_from ++ codes " " ++ decimal line_to ++ line_end
 
 -- the lines of a function itself
 abbrev pub own_lines : List ℕ → ℕ → Bool → ℕ → List ℕ → List Const → List Upval → ℕ → ℕ → List ℕ
 own_lines path parameters vararg registers code constants upvalues line_from line_to =
-    head_line path parameters (bit vararg) registers line_from line_to
+    head_line (head_front path parameters (bit vararg)) registers line_from line_to
     ++ code_lines 0 code ++ constant_lines 0 constants ++ upvalue_lines 0 upvalues
 
 abbrev mutual

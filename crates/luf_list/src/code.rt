@@ -1,6 +1,6 @@
 //! The lines of code.
 ghost use Rattle.std.specs.Prelude.{◌≡◌, ◌++◌, ◌<◌, ◌≤◌, string_bytes, IfOk, None, OnOk};
-ghost use Rattle.luf_list.specs.Listing.{abc_line, abck_line, abx_line, asbx_line, ax_line, code_line, code_lines, hex, hex_digit, instruction_line, named_line, sj_line};
+ghost use Rattle.luf_list.specs.Listing.{abc_line, abck_line, abx_line, asbx_line, ax_line, code_line, code_lines, hex, hex_digit, instruction_line, line_front, named_line, sj_line};
 
 use luf_memory::Memory;
 use luf_ops::Instr;
@@ -34,10 +34,11 @@ fn named_line(alloc: Global, position: usize, name: &str, i: Instr) -> Result<St
 {
     match i {
         Instr::Abc { a, k, b, c, .. } => {
+            let front = line_front(alloc, position, name, a)?;
             if k {
-                abck_line(alloc, position, name, a, b, c)
+                abck_line(alloc, front.as_str(), b, c)
             } else {
-                abc_line(alloc, position, name, a, b, c)
+                abc_line(alloc, front.as_str(), b, c)
             }
         }
         Instr::Abx { a, bx, .. } => abx_line(alloc, position, name, a, bx),
@@ -47,16 +48,22 @@ fn named_line(alloc: Global, position: usize, name: &str, i: Instr) -> Result<St
     }
 }
 
-fn abck_line(alloc: Global, position: usize, name: &str, a: u8, b: u8, c: u8) -> Result<String, Memory>
-    ensures { IfOk result (λ line. string_bytes line ≡ abck_line position name.now a b c) }
+fn line_front(alloc: Global, position: usize, name: &str, a: u8) -> Result<String, Memory>
+    ensures { IfOk result (λ front. string_bytes front ≡ line_front position name.now a) }
 {
-    Ok(format!(in alloc; "{position} {name} {a} {b} {c} k\n")?)
+    Ok(format!(in alloc; "{position} {name} {a}")?)
 }
 
-fn abc_line(alloc: Global, position: usize, name: &str, a: u8, b: u8, c: u8) -> Result<String, Memory>
-    ensures { IfOk result (λ line. string_bytes line ≡ abc_line position name.now a b c) }
+fn abck_line(alloc: Global, front: &str, b: u8, c: u8) -> Result<String, Memory>
+    ensures { IfOk result (λ line. string_bytes line ≡ abck_line front.now b c) }
 {
-    Ok(format!(in alloc; "{position} {name} {a} {b} {c}\n")?)
+    Ok(format!(in alloc; "{front} {b} {c} k\n")?)
+}
+
+fn abc_line(alloc: Global, front: &str, b: u8, c: u8) -> Result<String, Memory>
+    ensures { IfOk result (λ line. string_bytes line ≡ abc_line front.now b c) }
+{
+    Ok(format!(in alloc; "{front} {b} {c}\n")?)
 }
 
 fn abx_line(alloc: Global, position: usize, name: &str, a: u8, bx: u32) -> Result<String, Memory>

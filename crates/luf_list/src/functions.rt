@@ -1,6 +1,6 @@
 //! The listing of a function with all inside it.
 ghost use Rattle.std.specs.Prelude.{◌≡◌, ◌++◌, map, string_bytes, IfOk, OnOk, OnErr};
-ghost use Rattle.luf_list.specs.Listing.{head_line, inner_listings, listing, listing_at, own_lines, upvalue_line, upvalue_lines};
+ghost use Rattle.luf_list.specs.Listing.{head_front, head_line, inner_listings, listing, listing_at, own_lines, upvalue_line, upvalue_lines};
 ghost use Rattle.luf_ops.specs.Instruction.{bit};
 ghost use Rattle.luf_proto.specs.FunctionOf.{function_of, functions_of};
 ghost use Rattle.luf_proto.specs.declared.proto.Proto.{out-Proto};
@@ -52,18 +52,25 @@ fn write_own(alloc: Global, path: &str, p: &Proto, into: &mut Vec<u8>) -> Result
 }
 
 fn write_head(alloc: Global, path: &str, p: &Proto, into: &mut Vec<u8>) -> Result<(), Memory>
-    ensures { OnOk result (into.new.items ≡ into.old.items ++ head_line path.now (out-Proto p.now).numparams (bit (out-Proto p.now).is_vararg) (out-Proto p.now).maxstack (out-Proto p.now).line_from (out-Proto p.now).line_to) }
+    ensures { OnOk result (into.new.items ≡ into.old.items ++ head_line (head_front path.now (out-Proto p.now).numparams (bit (out-Proto p.now).is_vararg)) (out-Proto p.now).maxstack (out-Proto p.now).line_from (out-Proto p.now).line_to) }
 {
     let vararg = u8::from(p.is_vararg);
-    let line = head_line(alloc, path, p.numparams, vararg, p.maxstack, p.line_from, p.line_to)?;
+    let front = head_front(alloc, path, p.numparams, vararg)?;
+    let line = head_line(alloc, front.as_str(), p.maxstack, p.line_from, p.line_to)?;
     into.extend_from_slice(line.as_bytes())?;
     Ok(())
 }
 
-fn head_line(alloc: Global, path: &str, params: u8, vararg: u8, stack: u8, from: u32, to: u32) -> Result<String, Memory>
-    ensures { IfOk result (λ line. string_bytes line ≡ head_line path.now params vararg stack from to) }
+fn head_front(alloc: Global, path: &str, params: u8, vararg: u8) -> Result<String, Memory>
+    ensures { IfOk result (λ front. string_bytes front ≡ head_front path.now params vararg) }
 {
-    Ok(format!(in alloc; "function {path} params {params} vararg {vararg} stack {stack} lines {from} {to}\n")?)
+    Ok(format!(in alloc; "function {path} params {params} vararg {vararg}")?)
+}
+
+fn head_line(alloc: Global, front: &str, stack: u8, from: u32, to: u32) -> Result<String, Memory>
+    ensures { IfOk result (λ line. string_bytes line ≡ head_line front.now stack from to) }
+{
+    Ok(format!(in alloc; "{front} stack {stack} lines {from} {to}\n")?)
 }
 
 fn write_upvals(alloc: Global, upvals: &[Upval], into: &mut Vec<u8>) -> Result<(), Memory>
