@@ -94,10 +94,13 @@ constant_text (const.Spelled spelling) = codes "float " ++ spelling
 constant_text (const.Word word) = codes "word " ++ hex 16 word
 constant_text (const.Str text) = codes "str " ++ 34 ∷ flat_map escaped text ++ 34 ∷ []
 
+abbrev pub constant_line : ℕ → Const → List ℕ
+constant_line index c = codes "k " ++ decimal index ++ codes " " ++ constant_text c ++ line_end
+
 -- from an index on
 abbrev pub constant_lines : ℕ → List Const → List ℕ
 constant_lines index [] = []
-constant_lines index (c ∷ cs) = (codes "k " ++ decimal index ++ codes " " ++ constant_text c ++ line_end) ++ constant_lines (index + 1) cs
+constant_lines index (c ∷ cs) = constant_line index c ++ constant_lines (index + 1) cs
 
 -- ---- upvalues: where it is found, and its kind
 
@@ -123,6 +126,9 @@ own_lines path parameters vararg registers code constants upvalues line_from lin
     head_line (head_front path parameters (bit vararg)) registers line_from line_to
     ++ code_lines 0 code ++ constant_lines 0 constants ++ upvalue_lines 0 upvalues
 
+abbrev pub inner_path : List ℕ → ℕ → List ℕ
+inner_path path index = path ++ codes "." ++ decimal index
+
 abbrev mutual
   pub listing_at : List ℕ → Function → List ℕ
   listing_at path (function parameters vararg registers code constants upvalues inner line_from line_to) =
@@ -131,7 +137,7 @@ abbrev mutual
   pub inner_listings : List ℕ → ℕ → Functions → List ℕ
   inner_listings path index no_functions = []
   inner_listings path index (more_functions first rest) =
-      listing_at (path ++ codes "." ++ decimal index) first ++ inner_listings path (index + 1) rest
+      listing_at (inner_path path index) first ++ inner_listings path (index + 1) rest
 
 -- the main function has the path 0
 abbrev pub listing : Function → List ℕ

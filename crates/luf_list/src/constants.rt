@@ -1,7 +1,7 @@
 //! The lines of constants.
 ghost use Rattle.std.specs.Prelude.{◌≡◌, [], ◌∷◌, ◌++◌, codes, OnOk};
 ghost use Rattle.std.specs.List.{flat_map};
-ghost use Rattle.luf_list.specs.Listing.{constant_lines, constant_text, escaped, is_printable, is_quoted};
+ghost use Rattle.luf_list.specs.Listing.{constant_line, constant_lines, constant_text, escaped, is_printable, is_quoted};
 
 use crate::code::write_hex;
 use luf_memory::Memory;
@@ -12,11 +12,18 @@ pub(crate) fn write_constants(alloc: Global, consts: &[Const], into: &mut Vec<u8
     ensures { OnOk result (into.new.items ≡ into.old.items ++ constant_lines 0 consts.now) }
 {
     for (index, constant) in consts.iter().enumerate() {
-        let front = format!(in alloc; "k {index} ")?;
-        into.extend_from_slice(front.as_bytes())?;
-        write_constant(alloc, constant, into)?;
-        into.push(b'\n')?;
+        write_line(alloc, index, constant, into)?;
     }
+    Ok(())
+}
+
+fn write_line(alloc: Global, index: usize, constant: &Const, into: &mut Vec<u8>) -> Result<(), Memory>
+    ensures { OnOk result (into.new.items ≡ into.old.items ++ constant_line index constant.now) }
+{
+    let front = format!(in alloc; "k {index} ")?;
+    into.extend_from_slice(front.as_bytes())?;
+    write_constant(alloc, constant, into)?;
+    into.push(b'\n')?;
     Ok(())
 }
 

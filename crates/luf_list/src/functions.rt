@@ -1,6 +1,6 @@
 //! The listing of a function with all inside it.
 ghost use Rattle.std.specs.Prelude.{◌≡◌, ◌++◌, map, string_bytes, IfOk, OnOk, OnErr};
-ghost use Rattle.luf_list.specs.Listing.{head_front, head_line, inner_listings, listing, listing_at, own_lines, upvalue_line, upvalue_lines};
+ghost use Rattle.luf_list.specs.Listing.{head_front, head_line, inner_listings, inner_path, listing, listing_at, own_lines, upvalue_line, upvalue_lines};
 ghost use Rattle.luf_ops.specs.Instruction.{bit};
 ghost use Rattle.luf_proto.specs.FunctionOf.{function_of, functions_of};
 ghost use Rattle.luf_proto.specs.declared.proto.Proto.{out-Proto};
@@ -35,10 +35,16 @@ fn write_inner(alloc: Global, path: &str, subs: &[Proto], into: &mut Vec<u8>) ->
     ensures { OnOk result (into.new.items ≡ into.old.items ++ inner_listings path.now 0 (functions_of (map function_of subs.now))) }
 {
     for (index, sub) in subs.iter().enumerate() {
-        let inner = format!(in alloc; "{path}.{index}")?;
+        let inner = inner_path(alloc, path, index)?;
         write_function(alloc, inner.as_str(), sub, into)?;
     }
     Ok(())
+}
+
+fn inner_path(alloc: Global, path: &str, index: usize) -> Result<String, Memory>
+    ensures { IfOk result (λ inner. string_bytes inner ≡ inner_path path.now index) }
+{
+    Ok(format!(in alloc; "{path}.{index}")?)
 }
 
 /// Appends what a function has itself.

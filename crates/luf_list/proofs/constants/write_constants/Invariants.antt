@@ -4,4 +4,4 @@ use Rattle.luf_list.proofs.constants.write_constants.Given as goal
 
 -- what is written and what is left are the whole
 abbrev pub invariant-loop-index : goal.invariant-loop-index
-invariant-loop-index l = l.into.items ++ constant_lines l.index-counter (drop l.index-counter l.consts) ≡ l.fn.into.items ++ constant_lines 0 l.consts
+invariant-loop-index l = l.into.items ++ constant_lines l.index (drop l.index l.consts) ≡ l.fn.into.items ++ constant_lines 0 l.consts

@@ -5,4 +5,4 @@ use Rattle.luf_list.proofs.functions.+functions.Given as goal
 
 -- what is written and what is left are the whole
 abbrev pub invariant-write_inner-loop-index : goal.invariant-write_inner-loop-index
-invariant-write_inner-loop-index l = l.into.items ++ inner_listings l.path l.index-counter (functions_of (map function_of (drop l.index-counter l.subs))) ≡ l.fn.into.items ++ inner_listings l.path 0 (functions_of (map function_of l.subs))
+invariant-write_inner-loop-index l = l.into.items ++ inner_listings l.path l.index (functions_of (map function_of (drop l.index l.subs))) ≡ l.fn.into.items ++ inner_listings l.path 0 (functions_of (map function_of l.subs))
