@@ -8,7 +8,11 @@ use luf_memory::Memory;
 use luf_proto::Const;
 use std::alloc::Global;
 
-pub(crate) fn write_constants(alloc: Global, consts: &[Const], into: &mut Vec<u8>) -> Result<(), Memory>
+pub(crate) fn write_constants(
+    alloc: Global,
+    consts: &[Const],
+    into: &mut Vec<u8>,
+) -> Result<(), Memory>
     ensures { OnOk result (into.new.items ≡ into.old.items ++ constant_lines 0 consts.now) }
 {
     for (index, constant) in consts.iter().enumerate() {
@@ -17,7 +21,12 @@ pub(crate) fn write_constants(alloc: Global, consts: &[Const], into: &mut Vec<u8
     Ok(())
 }
 
-fn write_line(alloc: Global, index: usize, constant: &Const, into: &mut Vec<u8>) -> Result<(), Memory>
+fn write_line(
+    alloc: Global,
+    index: usize,
+    constant: &Const,
+    into: &mut Vec<u8>,
+) -> Result<(), Memory>
     ensures { OnOk result (into.new.items ≡ into.old.items ++ constant_line index constant.now) }
 {
     let front = format!(in alloc; "k {index} ")?;

@@ -90,7 +90,13 @@ fn write_upvals(alloc: Global, upvals: &[Upval], into: &mut Vec<u8>) -> Result<(
     Ok(())
 }
 
-fn upvalue_line(alloc: Global, index: usize, instack: u8, idx: u8, kind: u8) -> Result<String, Memory>
+fn upvalue_line(
+    alloc: Global,
+    index: usize,
+    instack: u8,
+    idx: u8,
+    kind: u8,
+) -> Result<String, Memory>
     ensures { IfOk result (λ line. string_bytes line ≡ upvalue_line index instack idx kind) }
 {
     Ok(format!(in alloc; "u {index} {instack} {idx} {kind}\n")?)

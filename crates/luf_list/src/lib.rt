@@ -4,6 +4,8 @@
 mod code;
 mod constants;
 mod functions;
+#[cfg(test)]
+mod tests;
 
 pub use functions::list;
 pub use luf_memory::Memory;

@@ -13,6 +13,7 @@ digit_written all mid new rest left d e is digit more before =
     ap (λ xs. xs ++ rest) is ∙ append_assoc mid (d ∷ []) rest ∙ ap (λ x. mid ++ x ∷ rest) digit ∙ ap (λ xs. mid ++ xs) (sym more) ∙ before
 
 pub loop-left-preserved : goal.loop-left-preserved
-loop-left-preserved c =
-    ( omega arith
-    , digit_written _ _ _ _ _ _ _ c.in_ok-push.ensures.items (c.hex_digit.ensures ∙ ap hex_digit (and_mask (c.args.number / 2 ^ (4 * (c.loop-left.left - 1))) 4)) (hex_more c.loop-left.left c.args.number c.loop-left-test.true) c.loop-left.invariant.1 )
+loop-left-preserved c = (
+  omega arith,
+  digit_written _ _ _ _ _ _ _ c.in_ok-push.ensures.items (c.hex_digit.ensures ∙ ap hex_digit (and_mask (c.args.number / 2 ^ (4 * (c.loop-left.left - 1))) 4)) (hex_more c.loop-left.left c.args.number c.loop-left-test.true) c.loop-left.invariant.1,
+)
