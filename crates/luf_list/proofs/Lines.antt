@@ -1,5 +1,5 @@
 -- What is written and what is left, after one more line or one more function.
-use Rattle.std.proofs.Common.{◌≡◌, ◌∙◌, ap, sym, ℕ, ◌+◌, ◌<◌, suc, List, [], ◌∷◌, ◌++◌, map, drop, length, get_or, drop-cons, add-one, append_assoc}
+use Rattle.std.proofs.Common.{◌≡◌, ◌∙◌, ap, sym, ℕ, ◌+◌, ◌<◌, suc, List, ◌∷◌, ◌++◌, map, drop, length, get_or, drop-cons, add-one, append_assoc}
 use Rattle.luf_list.specs.Listing.{constant_line, constant_lines, inner_listings, inner_path, listing_at}
 use Rattle.luf_proto.specs.FunctionOf.{function_of, functions_of}
 use Rattle.luf_proto.specs.declared.proto.Const.{Const}

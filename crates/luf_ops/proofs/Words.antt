@@ -2,7 +2,6 @@
 use Rattle.std.proofs.Common.{◌≡◌, ◌∙◌, ap, sym, refl, ℕ, ◌+◌, ◌*◌, ◌^◌, ◌%◌, ◌<◌, Bool, true, false, ℤ, pos, negsuc, arith}
 use Rattle.luf_ops.specs.Operation.{number_of, form_of}
 use Rattle.luf_ops.specs.Instruction.{Fits, op_of, IsStorable, bit, stored, sbx_excess, sj_excess, word_of}
-use Rattle.luf_ops.specs.declared.op.Op.{Op}
 use Rattle.luf_ops.specs.declared.form.Form.{Form}
 use Rattle.luf_ops.specs.declared.form.Form.TheVariants as form
 use Rattle.luf_ops.specs.declared.instr.Instr.{Instr}
