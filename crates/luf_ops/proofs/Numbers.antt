@@ -1,5 +1,5 @@
 -- Each operation stands at its number in the list of all, so that numbers are below 83, and no two are the same.
-use Rattle.std.proofs.Common.{◌≡◌, ◌∙◌, ap, sym, refl, ℕ, ◌+◌, ◌<◌, zero, suc, Bool, true, ◌&&◌, eqb, List, [], ◌∷◌, length, slice_get, Some, zero-add, arith}
+use Rattle.std.proofs.Common.{◌≡◌, ◌∙◌, ap, refl, ℕ, ◌+◌, ◌<◌, zero, suc, Bool, true, ◌&&◌, eqb, List, [], ◌∷◌, slice_get, Some, zero-add, arith}
 use Rattle.std.proofs.lemmas.Bool.{and_parts, eqb-true}
 use Rattle.std.proofs.lemmas.Option.{slice_get_within}
 use Rattle.luf_ops.specs.Operation.{number_of, operations}

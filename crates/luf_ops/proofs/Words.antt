@@ -1,20 +1,12 @@
 -- An instruction that fits is known by its word.
 use Rattle.std.proofs.Common.{◌≡◌, ◌∙◌, ap, sym, refl, ℕ, ◌+◌, ◌*◌, ◌^◌, ◌%◌, ◌<◌, Bool, true, false, ℤ, pos, negsuc, arith}
 use Rattle.luf_ops.specs.Operation.{number_of, form_of}
-use Rattle.luf_ops.specs.Instruction.{Fits, IsStorable, bit, stored, sbx_excess, sj_excess, word_of}
-use Rattle.luf_ops.specs.declared.op.Op.{Op}
+use Rattle.luf_ops.specs.Instruction.{Fits, op_of, IsStorable, bit, stored, sbx_excess, sj_excess, word_of}
 use Rattle.luf_ops.specs.declared.form.Form.{Form}
 use Rattle.luf_ops.specs.declared.form.Form.TheVariants as form
 use Rattle.luf_ops.specs.declared.instr.Instr.{Instr}
 use Rattle.luf_ops.specs.declared.instr.Instr.TheVariants as instr
 use Rattle.luf_ops.proofs.Numbers.{number_of-below, number_of-same}
-
-abbrev pub op_of : Instr → Op
-op_of (instr.Abc op a k b c) = op
-op_of (instr.Abx op a bx) = op
-op_of (instr.Asbx op a sbx) = op
-op_of (instr.Ax op ax) = op
-op_of (instr.Sj op sj) = op
 
 -- the lowest bits of a word are the number of its operation
 pub word_of-mod : (i : Instr) → word_of i % 2 ^ 7 ≡ number_of (op_of i)

@@ -10,6 +10,13 @@ use Rattle.luf_ops.specs.declared.form.Form.TheVariants as form
 use Rattle.luf_ops.specs.declared.instr.Instr.{Instr}
 use Rattle.luf_ops.specs.declared.instr.Instr.TheVariants as instr
 
+abbrev pub op_of : Instr → Op
+op_of (instr.Abc op a k b c) = op
+op_of (instr.Abx op a bx) = op
+op_of (instr.Asbx op a sbx) = op
+op_of (instr.Ax op ax) = op
+op_of (instr.Sj op sj) = op
+
 -- the excess of sBx, whose field has 17 bits, and that of sJ, whose field has 25
 abbrev pub sbx_excess : ℕ
 sbx_excess = 65535

@@ -1,7 +1,7 @@
 //! Instructions, and the words in which they are stored.
 ghost use Rattle.std.specs.Prelude.{◌≡◌, ℕ, ◌+◌, ◌*◌, ◌/◌, ◌%◌, ◌^◌, ◌<◌, ◌≤◌, ◌↔◌, IsTrue, IsSome, IfSome, Some, pos, ◌-ℤ◌};
 ghost use Rattle.luf_ops.specs.Operation.{form_of, number_of};
-ghost use Rattle.luf_ops.specs.Instruction.{Fits, IsStorable, bit, instruction_of, instruction_with, stored, word_of};
+ghost use Rattle.luf_ops.specs.Instruction.{Fits, IsStorable, bit, instruction_of, instruction_with, op_of, stored, word_of};
 
 use crate::{Form, Op};
 
@@ -58,6 +58,19 @@ const SBX_EXCESS: u32 = 65_535;
 const SJ_EXCESS: u32 = 16_777_215;
 
 impl Instr {
+    /// Its operation.
+    pub fn op(self) -> Op
+        ensures { result ≡ op_of self }
+    {
+        match self {
+            Instr::Abc { op, .. }
+            | Instr::Abx { op, .. }
+            | Instr::Asbx { op, .. }
+            | Instr::Ax { op, .. }
+            | Instr::Sj { op, .. } => op,
+        }
+    }
+
     /// Whether the operation has this form, and each operand has room in its field.
     pub fn fits(&self) -> bool
         ensures { IsTrue result ↔ Fits self.now }

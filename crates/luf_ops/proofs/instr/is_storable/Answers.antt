@@ -1,4 +1,4 @@
-use Rattle.std.proofs.Common.{◌≡◌, Bool, true, IsTrue, ◌≤◌, ◌+ℤ◌, pos, negsuc, to_z, of_z, w64, ℤ, ℕ, arith}
+use Rattle.std.proofs.Common.{◌≡◌, true, IsTrue, ◌≤◌, ◌+ℤ◌, pos, negsuc, to_z, of_z, w64, ℤ, ℕ, arith}
 use Rattle.std.proofs.lemmas.Int.{ints}
 use lib.Signed.{lt_z, le_z}
 use Rattle.luf_ops.specs.Instruction.{IsStorable}

@@ -1,4 +1,4 @@
-use Rattle.std.proofs.Common.{◌≡◌, ◌∙◌, ap, sym, Some, option_map, slice_get}
+use Rattle.std.proofs.Common.{◌∙◌, ap, sym, Some, option_map, slice_get}
 use Rattle.luf_ops.specs.Operation.{form_of, operations}
 use Rattle.luf_ops.specs.Instruction.{instruction_with}
 use Rattle.luf_ops.specs.declared.op.Op.{Op}

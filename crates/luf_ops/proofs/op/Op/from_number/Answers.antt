@@ -1,6 +1,6 @@
-use Rattle.std.proofs.Common.{◌≡◌, ℕ, ◌<◌, sym, Some, slice_get, arith, rules}
+use Rattle.std.proofs.Common.{sym}
 use Rattle.std.proofs.lemmas.Option.{slice_get-get_or, slice_get_past}
-use Rattle.luf_ops.specs.Operation.{number_of, operations}
+use Rattle.luf_ops.specs.Operation.{operations}
 use Rattle.luf_ops.proofs.Numbers.{number_of-slice_get}
 use Rattle.luf_ops.proofs.op.Op.from_number.Goals as goal
 
