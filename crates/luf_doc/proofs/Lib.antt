@@ -1,0 +1,5 @@
+pub mod DocumentLaws
+pub mod FlatLaws
+pub mod TableLaws
+pub mod SizeLoop
+mod Examples
