@@ -1,5 +1,6 @@
 -- Flat bytes and what follows them: a line end inside ends the count.
 use Rattle.std.specs.List.{list_any, position, position_from}
+use Rattle.std.proofs.lemmas.Iterator.Adapters.{position_from-zero}
 use Rattle.std.proofs.Common.{◌≡◌, ℕ, ◌+◌, ◌≤◌, min, Bool, true, false, ◌||◌, cond, Option, Some, None, is_some, unwrap_or, List, [], ◌∷◌, length, refl, sym, ap, ◌∙◌, arith, add-zero}
 use Rattle.luf_doc.specs.declared.doc.Chance.{Chance}
 use Rattle.luf_doc.specs.declared.doc.Chance.TheVariants.{Tight, Space, Soft, Line, Hard}
@@ -85,5 +86,16 @@ first_end (b ∷ bytes) i = by (is_line_end b) (first_end bytes (i + 1))
   where
     by : (e : Bool) → (unwrap_or (position_from is_line_end (i + 1) bytes) (i + 1 + length bytes) ≡ i + 1 + counted bytes 0) × (is_some (position_from is_line_end (i + 1) bytes) ≡ list_any is_line_end bytes)
         → (unwrap_or (cond e (Some i) (position_from is_line_end (i + 1) bytes)) (i + length (b ∷ bytes)) ≡ i + cond e 0 (1 + counted bytes 0)) × (is_some (cond e (Some i) (position_from is_line_end (i + 1) bytes)) ≡ (e || list_any is_line_end bytes))
-    by true is = (omega arith, refl)
-    by false is = (?, is.1)
+    by true is = (sym (add-zero i), refl)
+    by false is =
+        let longer : i + length (b ∷ bytes) ≡ i + 1 + length bytes = omega arith in
+        let counts : i + 1 + counted bytes 0 ≡ i + (1 + counted bytes 0) = omega arith in
+        (ap (unwrap_or (position_from is_line_end (i + 1) bytes)) longer ∙ is.0 ∙ counts, is.1)
+
+-- a text's size, by the index of its first line end
+pub text_size : (bytes : List ℕ) (found : Option ℕ) → found ≡ position is_line_end bytes → (unwrap_or found (length bytes) ≡ counted bytes 0) × (is_some found ≡ list_any is_line_end bytes)
+text_size bytes found is =
+    let first = first_end bytes 0 in
+    let from_start : (0 + length bytes ≡ length bytes) × (0 + counted bytes 0 ≡ counted bytes 0) = (omega arith, omega arith) in
+    let here : found ≡ position_from is_line_end 0 bytes = is ∙ position_from-zero is_line_end bytes in
+    (ap (λ (o : Option ℕ). unwrap_or o (length bytes)) here ∙ ap (unwrap_or (position_from is_line_end 0 bytes)) (sym from_start.0) ∙ first.0 ∙ from_start.1, ap (λ (o : Option ℕ). is_some o) here ∙ first.1)

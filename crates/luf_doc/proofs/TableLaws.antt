@@ -1,13 +1,13 @@
 -- The rows of a document, and the document of rows.
-use Rattle.std.proofs.Common.{◌≡◌, ℕ, ◌+◌, List, [], ◌∷◌, ◌++◌, length, take, drop, refl, sym, ap, ◌∙◌, subst, arith, append-nil, append_assoc, length-append}
+use Rattle.std.proofs.Common.{◌≡◌, ℕ, ◌+◌, ◌^◌, ◌<◌, List, [], ◌∷◌, ◌++◌, length, get_or, slice_get, take, drop, Some, refl, sym, ap, ◌∙◌, arith, append-nil, append_assoc, length-append}
+use Rattle.std.proofs.lemmas.Option.{slice_get_read}
 use Rattle.std.proofs.Math.Seq.{take-append_seam, drop-append_seam}
 use Rattle.luf_doc.specs.declared.doc.Doc.{Doc}
 use Rattle.luf_doc.specs.declared.doc.Doc.TheVariants as doc
 use Rattle.luf_doc.specs.declared.table.Node.{Node}
 use Rattle.luf_doc.specs.Document.{Document, Documents, text, between, trail, nest, group, sequence, nothing, also, document_of}
-use Rattle.luf_doc.specs.Flat.{flat, all_flat}
 use Rattle.luf_doc.specs.Table.{node_count, all_count, places, inside, row_of, rows_from, all_rows, rows_of}
-use Rattle.luf_doc.specs.inner.Read.{around_first, documents_in, document_in, first_document}
+use Rattle.luf_doc.specs.inner.Read.{around_first, documents_in, document_in, first_document, IsTable}
 use Rattle.luf_doc.proofs.DocumentLaws.{doc_of, docs_of, document_keeps}
 
 pub rows_inside : (at : ℕ) (d : Document) → rows_from at d ≡ row_of at d ∷ all_rows (at + 1) (inside d)
@@ -71,3 +71,22 @@ table_keeps d =
     ap document_in (sym (append-nil (rows_of (document_of d))))
     ∙ ap first_document (read_back 0 (document_of d) [])
     ∙ document_keeps d
+
+pub table_of : (d : Doc) (rows : List Node) → rows ≡ rows_of (document_of d) → node_count (document_of d) < 2 ^ 32 → IsTable rows
+table_of d rows is few =
+    let count = ap length is ∙ rows_count 0 (document_of d) in
+    record {
+      rows_are = is ∙ ap (λ (d : Doc). rows_of (document_of d)) (sym (ap document_in is ∙ table_keeps d));
+      few = omega (arith, count, few);
+    }
+
+-- how many rows a table has
+pub table_count : (rows : List Node) → IsTable rows → length rows ≡ node_count (document_of (document_in rows))
+table_count rows table = ap length table.rows_are ∙ rows_count 0 (document_of (document_in rows))
+
+-- a row of a table
+pub table_row : (rows : List Node) → IsTable rows → (id : ℕ) → id < node_count (document_of (document_in rows)) → (row : Node) → row ≡ get_or rows id row
+    → slice_get (rows_of (document_of (document_in rows))) id ≡ Some row
+table_row rows table id within row is =
+    let count = table_count rows table in
+    ap (λ (all : List Node). slice_get all id) (sym table.rows_are) ∙ slice_get_read rows (length rows) id row refl (omega (arith, count, within)) is

@@ -1,10 +1,10 @@
 // How many bytes a document has on one line.
-ghost use Rattle.std.specs.Prelude.{◌≡◌, ◌≤◌, ◌<◌, ◌^◌, ℕ, length, min};
+ghost use Rattle.std.specs.Prelude.{◌≡◌, ◌≤◌, ◌<◌, ◌^◌, ℕ, length, min, position};
 ghost use Rattle.luf_doc.specs.Document.{text, between, document_of};
 ghost use Rattle.luf_doc.specs.Flat.{is_line_end};
-ghost use Rattle.luf_doc.specs.inner.Sizes.{own_size, size_of, then, none};
+ghost use Rattle.luf_doc.specs.inner.Sizes.{own_size, size_of, size_of_chance, size_of_note, then};
 
-use crate::{Chance, Doc, Gap};
+use crate::{Chance, Doc, Gap, Remark};
 
 /// The flat bytes up to the first line end, or the greatest number where they are more; whether there is a line end;
 /// whether something forces.
@@ -44,7 +44,7 @@ impl Size {
     fn of_text(bytes: &[u8]) -> Size
         ensures { result ≡ size_of (text bytes.now) }
     {
-        let end = bytes.iter().position(|b| is_line_end(*b));
+        let end = first_line_end(bytes);
         let len = end.unwrap_or(bytes.len());
         Size {
             flat: capped(len),
@@ -64,16 +64,23 @@ impl Size {
             ..Size::NONE
         };
         for note in gap.notes.as_slice() {
-            let text = Size {
-                forced: note.own_line || note.ends_line,
-                ..Size::of_text(note.text.as_slice())
-            };
-            size = size.then(Size::BLANK).then(text);
+            size = size.then(Size::BLANK).then(Size::of_note(note));
         }
         size.then(Size::BLANK)
     }
 
-    fn of_chance(chance: Chance) -> Size {
+    fn of_note(note: &Remark) -> Size
+        ensures { result ≡ size_of_note note.now }
+    {
+        Size {
+            forced: note.own_line || note.ends_line,
+            ..Size::of_text(note.text.as_slice())
+        }
+    }
+
+    fn of_chance(chance: Chance) -> Size
+        ensures { result ≡ size_of_chance chance }
+    {
         match chance {
             Chance::Tight | Chance::Soft => Size::NONE,
             Chance::Space | Chance::Line => Size::BLANK,
@@ -98,6 +105,13 @@ impl Size {
             forced: self.forced || next.forced,
         }
     }
+}
+
+/// Where the first line end begins.
+fn first_line_end(bytes: &[u8]) -> Option<usize>
+    ensures { result ≡ position is_line_end bytes.now }
+{
+    bytes.iter().position(|b| is_line_end(*b))
 }
 
 /// Whether a byte is of a line end: LF or CR.

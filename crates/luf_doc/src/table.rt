@@ -99,32 +99,25 @@ fn add(alloc: Global, doc: Doc, rows: &mut Vec<Node>) -> Result<Size, Memory>
     let at = rows.len();
     let mut size = Size::of_own(&doc);
     let (kind, mut left) = opened(alloc, doc)?;
-    rows.push(empty_row(alloc))?;
+    rows.push(Node {
+        kind,
+        children: Items::new(alloc),
+        flat: 0,
+        ended: false,
+        forced: false,
+    })?;
     let mut children = Vec::new(alloc);
     while let Some(child) = left.pop() {
         children.push(rows.len() as u32)?;
         let more = add(alloc, child, rows)?;
         size = size.then(more);
     }
-    rows[at] = Node {
-        kind,
-        children: Items::from_vec(children),
-        flat: size.flat,
-        ended: size.ended,
-        forced: size.forced,
-    };
+    let row = &mut rows[at];
+    row.children = Items::from_vec(children);
+    row.flat = size.flat;
+    row.ended = size.ended;
+    row.forced = size.forced;
     Ok(size)
-}
-
-/// A row that keeps the place of one that is not known yet.
-fn empty_row(alloc: Global) -> Node {
-    Node {
-        kind: NodeKind::Trail,
-        children: Items::new(alloc),
-        flat: 0,
-        ended: false,
-        forced: false,
-    }
 }
 
 /// What a document is, and the documents directly inside it, the last one first.
