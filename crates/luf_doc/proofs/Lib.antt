@@ -3,4 +3,5 @@ pub mod FlatLaws
 pub mod TableLaws
 pub mod SizeLoop
 pub mod AddLoop
+pub mod LayoutLaws
 mod Examples

@@ -3,12 +3,14 @@
 #![tactic(auto)]
 
 mod doc;
+mod laws;
 mod page;
 mod size;
 mod steps;
 mod table;
 
 pub use doc::{Chance, Doc, Gap, Remark};
+pub use laws::{broken_elsewhere, flat_inside, flat_where_it_fits, layout_joined};
 pub use luf_memory::Memory;
 pub use page::Page;
 pub use std::sync::ledger::Ledger;

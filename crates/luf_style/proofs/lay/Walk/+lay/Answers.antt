@@ -3,6 +3,7 @@ use Rattle.std.proofs.Common.{rules, ◌≡◌, ◌≤◌, ◌<◌, ◌+◌, ◌
 use Rattle.std.proofs.lemmas.List.{drop_more, drop_all, get_or-drop}
 use Rattle.std.proofs.lemmas.Result.{on_ok_weaker}
 use Rattle.luf_doc.specs.declared.table.Node.{Node}
+use Rattle.luf_doc.specs.declared.table.NodeKind.TheVariants as kind
 use Rattle.luf_doc.specs.Document.{document_of}
 use Rattle.luf_doc.specs.Flat.{flat}
 use Rattle.luf_doc.specs.Table.{node_count, places, inside}
@@ -52,7 +53,7 @@ lay-returns-in-Text-clause-ok g t c =
     let node = node_is d c.args.id c.requires.within c.node-node.result.now c.node-node.ensures.row in
     on_ok_weaker c.put.result
     (λ written done shown. subst (Shows c.args.self.now.page.now c.put.new.self)
-    (sym (lay_word c.args.self.now.page.now (mode_as c.args.at.mode) c.args.at.level (lead_at d c.args.end) (part d c.args.id) done c.as_slice.result.now (sym (ap (λ (r : Node). r.kind) node) ∙ c.in-Text.is ∙ ?)))
+    (sym (lay_word c.args.self.now.page.now (mode_as c.args.at.mode) c.args.at.level (lead_at d c.args.end) (part d c.args.id) done c.as_slice.result.now (sym (ap (λ (r : Node). r.kind) node) ∙ c.in-Text.is ∙ ap (λ (bytes : List ℕ). kind.Text bytes) (sym c.as_slice.ensures))))
     (written c.args.self.now.page.now done shown)) c.put.ensures.word
 
 pub lay-returns-in-Text-clause-steps : goal.lay-returns-in-Text-clause-steps
