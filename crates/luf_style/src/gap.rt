@@ -10,7 +10,13 @@ use luf_doc::{Gap, Page, Remark};
 use luf_memory::Memory;
 
 /// Writes a gap of a level.
-pub(crate) fn write_gap(page: &Page, gap: &Gap, mode: Mode, level: u32, sheet: &mut Sheet) -> Result<(), Memory>
+pub(crate) fn write_gap(
+    page: &Page,
+    gap: &Gap,
+    mode: Mode,
+    level: u32,
+    sheet: &mut Sheet,
+) -> Result<(), Memory>
     requires page { page.now.unit ≤ 16 }
     requires level { level + 1 < 2 ^ 32 }
     ensures { OnOk result ((done : List Piece) → Shows page.now sheet.old done → Shows page.now sheet.new (lay_gap gap.now (mode_as mode) level gap.now.notes done)) }
@@ -26,7 +32,13 @@ pub(crate) fn write_gap(page: &Page, gap: &Gap, mode: Mode, level: u32, sheet: &
 }
 
 /// Writes the notes of a gap that `must` break or need not.
-fn write_notes(page: &Page, gap: &Gap, must: bool, level: u32, sheet: &mut Sheet) -> Result<(), Memory>
+fn write_notes(
+    page: &Page,
+    gap: &Gap,
+    must: bool,
+    level: u32,
+    sheet: &mut Sheet,
+) -> Result<(), Memory>
     requires page { page.now.unit ≤ 16 }
     requires level { level + 1 < 2 ^ 32 }
     ensures { OnOk result ((done : List Piece) → Shows page.now sheet.old done → Shows page.now sheet.new (lay_notes gap.now level must false false gap.now.notes done)) }

@@ -21,7 +21,13 @@ use std::alloc::Global;
 /// memory was found; it leaves `into` as it was, and the steps stay counted. Time is linear in the nodes and the bytes of
 /// the document and of the layout; the calls nest as deep as the document. It reads each row twice, and keeps four bytes
 /// a row.
-pub fn lay_table<L: Ledger>(alloc: Global, t: &DocTable, page: &Page, into: &mut Vec<u8>, steps: &mut Steps<L>) -> Result<(), Memory>
+pub fn lay_table<L: Ledger>(
+    alloc: Global,
+    t: &DocTable,
+    page: &Page,
+    into: &mut Vec<u8>,
+    steps: &mut Steps<L>,
+) -> Result<(), Memory>
     requires width { page.now.width ≤ 10000 }
     requires unit { page.now.unit ≤ 16 }
     ensures ok { OnOk result (into.new.items ≡ into.old.items ++ layout page.now (document_of t.now)) }
@@ -62,7 +68,14 @@ struct Setting {
 impl Walk<'_> {
     /// Writes the layout of the node of row `id`; `end` is the row behind all that is below it.
     #[cycle(lay)]
-    fn lay<L: Ledger>(&self, id: u32, end: u32, at: Setting, sheet: &mut Sheet, steps: &mut Steps<L>) -> Result<(), Memory>
+    fn lay<L: Ledger>(
+        &self,
+        id: u32,
+        end: u32,
+        at: Setting,
+        sheet: &mut Sheet,
+        steps: &mut Steps<L>,
+    ) -> Result<(), Memory>
         requires width { self.now.page.now.width ≤ 10000 }
         requires unit { self.now.page.now.unit ≤ 16 }
         requires leads { IsLeads (document_of self.now.table.now) self.now.leads.now }
@@ -98,7 +111,15 @@ impl Walk<'_> {
 
     /// Writes the layouts of the nodes directly inside the node of row `id`.
     #[cycle(lay)]
-    fn lay_inside<L: Ledger>(&self, id: u32, end: u32, node: &Node, at: Setting, sheet: &mut Sheet, steps: &mut Steps<L>) -> Result<(), Memory>
+    fn lay_inside<L: Ledger>(
+        &self,
+        id: u32,
+        end: u32,
+        node: &Node,
+        at: Setting,
+        sheet: &mut Sheet,
+        steps: &mut Steps<L>,
+    ) -> Result<(), Memory>
         requires width { self.now.page.now.width ≤ 10000 }
         requires unit { self.now.page.now.unit ≤ 16 }
         requires leads { IsLeads (document_of self.now.table.now) self.now.leads.now }

@@ -11,7 +11,11 @@ use std::alloc::Global;
 
 /// For each row of a table, and for its end, the bytes from there on up to the next place that may break, or the greatest
 /// number where they are more. Each row is read once, the last one first.
-pub(crate) fn leads_of<L: Ledger>(alloc: Global, table: &DocTable, steps: &mut Steps<L>) -> Result<Vec<u32>, Memory>
+pub(crate) fn leads_of<L: Ledger>(
+    alloc: Global,
+    table: &DocTable,
+    steps: &mut Steps<L>,
+) -> Result<Vec<u32>, Memory>
     ensures leads { IfOk result (λ leads. IsLeads (document_of table.now) leads.items) }
     ensures steps { steps.new ≤ steps.old + node_count (document_of table.now) }
 {

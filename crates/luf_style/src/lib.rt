@@ -6,6 +6,8 @@ mod lay;
 mod lead;
 mod mode;
 mod sheet;
+#[cfg(test)]
+mod tests;
 
 pub use lay::lay_table;
 pub use luf_memory::Memory;

@@ -42,7 +42,13 @@ impl Sheet {
     }
 
     /// Writes a break where `breaks` is set, else a space.
-    pub fn set_apart(&mut self, page: &Page, breaks: bool, level: u32, blank: bool) -> Result<(), Memory>
+    pub fn set_apart(
+        &mut self,
+        page: &Page,
+        breaks: bool,
+        level: u32,
+        blank: bool,
+    ) -> Result<(), Memory>
         requires { page.now.unit ≤ 16 }
         ensures { OnOk result ((done : List Piece) → Shows page.now self.old done → Shows page.now self.new (cond breaks (broken level blank done) (spaced done))) }
     {
