@@ -1,12 +1,11 @@
 -- The rows of a document, as far as they are added.
-use Rattle.std.proofs.Common.{◌≡◌, ℕ, ◌+◌, ◌≤◌, List, [], ◌∷◌, ◌++◌, length, map, reverse, refl, sym, ap, ◌∙◌, subst, arith, append-nil, append_assoc, length-append}
+use Rattle.std.proofs.Common.{◌≡◌, ℕ, ◌+◌, ◌≤◌, List, [], ◌∷◌, ◌++◌, length, map, reverse, sym, ap, ◌∙◌, subst, arith, append-nil, append_assoc, length-append}
 use Rattle.std.proofs.Math.ListN.{set, get_or}
 use Rattle.std.proofs.Math.Seq.{set-append_seam, get_or-append_seam}
 use Rattle.std.proofs.lemmas.List.{reverse-append}
 use Rattle.luf_doc.specs.declared.doc.Doc.{Doc}
 use Rattle.luf_doc.specs.declared.size.Size.{Size}
 use Rattle.luf_doc.specs.declared.table.Node.{Node}
-use Rattle.luf_doc.specs.declared.table.NodeKind.{NodeKind}
 use Rattle.luf_doc.specs.Document.{Document, Documents, nothing, also, documents, document_of}
 use Rattle.luf_doc.specs.Table.{node_count, all_count, places, inside, row_of, rows_from, all_rows, kind_of}
 use Rattle.luf_doc.specs.inner.Sizes.{size_of, own_size, then}

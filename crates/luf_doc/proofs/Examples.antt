@@ -1,7 +1,7 @@
 -- Small documents, computed.
 use Rattle.std.proofs.Common.{◌≡◌, ℕ, Bool, true, false, List, [], ◌∷◌, ◌++◌, refl, codes}
 use Rattle.luf_doc.specs.declared.doc.Chance.{Chance}
-use Rattle.luf_doc.specs.declared.doc.Chance.TheVariants.{Tight, Space, Soft, Line, Hard}
+use Rattle.luf_doc.specs.declared.doc.Chance.TheVariants.{Space, Soft, Line, Hard}
 use Rattle.luf_doc.specs.declared.doc.Remark.{Remark}
 use Rattle.luf_doc.specs.declared.page.Page.{Page}
 use Rattle.luf_doc.specs.Document.{Document, text, between, trail, nest, group, sequence, documents}

@@ -1,12 +1,12 @@
 -- Flat bytes and what follows them: a line end inside ends the count.
 use Rattle.std.specs.List.{list_any, position, position_from}
 use Rattle.std.proofs.lemmas.Iterator.Adapters.{position_from-zero}
-use Rattle.std.proofs.Common.{◌≡◌, ℕ, ◌+◌, ◌≤◌, min, Bool, true, false, ◌||◌, cond, Option, Some, None, is_some, unwrap_or, List, [], ◌∷◌, length, refl, sym, ap, ◌∙◌, arith, add-zero}
+use Rattle.std.proofs.Common.{◌≡◌, ℕ, ◌+◌, ◌≤◌, min, Bool, true, false, ◌||◌, cond, Option, Some, is_some, unwrap_or, List, [], ◌∷◌, length, refl, sym, ap, ◌∙◌, arith, add-zero}
 use Rattle.luf_doc.specs.declared.doc.Chance.{Chance}
 use Rattle.luf_doc.specs.declared.doc.Chance.TheVariants.{Tight, Space, Soft, Line, Hard}
 use Rattle.luf_doc.specs.declared.doc.Remark.{Remark}
 use Rattle.luf_doc.specs.Document.{Document, Documents, text, between, trail, nest, group, sequence, nothing, also}
-use Rattle.luf_doc.specs.Flat.{is_line_end, counted, counted_notes, flat_chance, flat_gap, flat, all_flat, is_note_ended, is_ended, any_ended}
+use Rattle.luf_doc.specs.Flat.{is_line_end, counted, counted_notes, flat_gap, flat, all_flat, is_note_ended, is_ended, any_ended}
 
 -- what is counted of two parts, one after another, where `e` says that the first has a line end and `f` are its bytes
 sum_of : (e g : Bool) (f n after : ℕ) → cond e f (f + cond g n (n + after)) ≡ cond (e || g) (cond e f (f + n)) (cond e f (f + n) + after)

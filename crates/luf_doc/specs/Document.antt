@@ -1,5 +1,5 @@
 -- A document as plain data, for definitions by cases, and the document of what the program holds.
-use Rattle.std.specs.Prelude.{ℕ, List, [], ◌∷◌, ◌++◌}
+use Rattle.std.specs.Prelude.{ℕ, List, [], ◌∷◌}
 use Rattle.luf_doc.specs.declared.doc.Gap.{Gap}
 use Rattle.luf_doc.specs.declared.doc.Doc.{Doc, fold-Doc}
 use Rattle.luf_doc.specs.declared.doc.Doc.TheOpen.{Doc-F}

@@ -4,7 +4,6 @@ use Rattle.std.specs.List.{list_any}
 use Rattle.luf_doc.specs.declared.doc.Chance.{Chance}
 use Rattle.luf_doc.specs.declared.doc.Chance.TheVariants.{Tight, Space, Soft, Line, Hard}
 use Rattle.luf_doc.specs.declared.doc.Remark.{Remark}
-use Rattle.luf_doc.specs.declared.doc.Gap.{Gap}
 use Rattle.luf_doc.specs.Document.{Document, Documents, text, between, trail, nest, group, sequence, nothing, also}
 
 -- a byte of a line end: LF or CR

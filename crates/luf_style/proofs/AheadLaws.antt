@@ -1,11 +1,11 @@
 -- What is left of a document at a row, and the rows and leads from there on.
-use Rattle.std.proofs.Common.{◌≡◌, ℕ, zero, suc, ◌+◌, ◌<◌, ◌≤◌, min, Bool, cond, Some, List, [], ◌∷◌, ◌++◌, slice_get, refl, sym, ap, ◌∙◌, subst, arith, append-nil, append_assoc, zero-add}
+use Rattle.std.proofs.Common.{◌≡◌, ℕ, zero, suc, ◌+◌, ◌<◌, ◌≤◌, min, Bool, cond, Some, List, ◌∷◌, ◌++◌, slice_get, refl, sym, ap, ◌∙◌, arith, append-nil, append_assoc, zero-add}
 use Rattle.luf_doc.specs.declared.table.Node.{Node}
 use Rattle.luf_doc.specs.Document.{Document, Documents, text, between, trail, nest, group, sequence, nothing, also}
 use Rattle.luf_doc.specs.declared.table.NodeKind.TheVariants as kind
 use Rattle.luf_doc.specs.Flat.{flat, lead, all_lead}
 use Rattle.luf_doc.proofs.FlatLaws.{flat_after}
-use Rattle.luf_doc.specs.Table.{node_count, all_count, inside, row_of, rows_from, all_rows, rows_of, places}
+use Rattle.luf_doc.specs.Table.{node_count, all_count, inside, row_of, rows_from, all_rows, rows_of}
 use Rattle.luf_doc.proofs.TableLaws.{rows_inside, count_inside}
 use Rattle.luf_style.specs.inner.Ahead.{join, next, ahead, first_of, behind_first, left_at, part}
 use Rattle.luf_style.specs.inner.Leads.{own_lead, lead_at}

@@ -1,9 +1,9 @@
 -- The notes of a gap, as far as they are written.
-use Rattle.std.proofs.Common.{◌≡◌, ℕ, ◌+◌, Bool, true, false, ◌||◌, cond, List, [], ◌∷◌, refl, sym, ap, ◌∙◌}
+use Rattle.std.proofs.Common.{◌≡◌, ℕ, Bool, false, List}
 use Rattle.luf_doc.specs.declared.page.Page.{Page}
 use Rattle.luf_doc.specs.declared.doc.Gap.{Gap}
 use Rattle.luf_doc.specs.declared.doc.Remark.{Remark}
-use Rattle.luf_doc.specs.Layout.{Piece, note, spaced, broken, next_break, lay_notes}
+use Rattle.luf_doc.specs.Layout.{Piece, lay_notes}
 use Rattle.luf_style.specs.declared.sheet.Sheet.{Sheet}
 use Rattle.luf_style.specs.inner.Shows.{Shows}
 

@@ -1,5 +1,5 @@
 -- The layout of a document of which the kind is known.
-use Rattle.std.proofs.Common.{◌≡◌, ℕ, ◌+◌, cond, List, [], ◌∷◌, refl, sym, ap, ◌∙◌}
+use Rattle.std.proofs.Common.{◌≡◌, ℕ, ◌+◌, cond, List, ◌∷◌, refl, ap}
 use Rattle.luf_doc.specs.declared.page.Page.{Page}
 use Rattle.luf_doc.specs.declared.doc.Gap.{Gap}
 use Rattle.luf_doc.specs.declared.table.NodeKind.TheVariants as kind

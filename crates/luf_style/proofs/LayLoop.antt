@@ -1,5 +1,5 @@
 -- The nodes directly inside a node, as far as they are laid.
-use Rattle.std.proofs.Common.{◌≡◌, ℕ, ◌+◌, ◌<◌, ◌≤◌, List, [], ◌∷◌, get_or, drop, refl, sym, ap, ◌∙◌, subst, arith}
+use Rattle.std.proofs.Common.{◌≡◌, ℕ, ◌+◌, ◌<◌, ◌≤◌, List, [], ◌∷◌, get_or, refl, sym, ap, ◌∙◌, subst, arith}
 use Rattle.luf_doc.specs.declared.page.Page.{Page}
 use Rattle.luf_doc.specs.Document.{Document, Documents, nothing, also}
 use Rattle.luf_doc.specs.Flat.{all_lead}

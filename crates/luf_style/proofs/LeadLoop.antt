@@ -1,5 +1,5 @@
 -- The leads of rows, as far as they are known.
-use Rattle.std.proofs.Common.{◌≡◌, ◌≤◌, ◌<◌, ◌≢◌, ◌+◌, ◌⊎◌, ℕ, List, Some, slice_get, inl, inr, ap, sym, ◌∙◌, subst, arith, min, length, get_or, set, replicate, ⊎_elim}
+use Rattle.std.proofs.Common.{◌≡◌, ◌≤◌, ◌<◌, ◌≢◌, ◌+◌, ℕ, List, Some, slice_get, ap, sym, ◌∙◌, arith, min, length, get_or, set, replicate, ⊎_elim}
 use Rattle.std.proofs.lemmas.List.{get_or-set_same, get_or-set_other, get_or-replicate, get_or_read}
 use Rattle.std.proofs.lemmas.Bool.{cases_lt}
 use Rattle.luf_doc.specs.declared.table.Node.{Node}

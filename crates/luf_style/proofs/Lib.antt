@@ -4,3 +4,4 @@ pub mod GapLoop
 pub mod LeadLoop
 pub mod LayLoop
 pub mod LayArms
+pub mod TestLemmas

@@ -1,5 +1,5 @@
 -- Sizes as they are counted from the left.
-use Rattle.std.specs.Prelude.{ℕ, ◌+◌, min, Bool, true, false, cond, ◌||◌}
+use Rattle.std.specs.Prelude.{◌+◌, min, true, false, cond, ◌||◌}
 use Rattle.luf_doc.specs.declared.doc.Remark.{Remark}
 use Rattle.luf_doc.specs.declared.size.Size.{Size}
 use Rattle.luf_doc.specs.declared.doc.Chance.{Chance}

@@ -1,5 +1,5 @@
 -- One document more is added, and in the end the row is put in its place.
-use Rattle.std.proofs.Common.{rules, ◌≡◌, ◌∙◌, ◌++◌, ap, sym, arith}
+use Rattle.std.proofs.Common.{rules, ◌∙◌, ◌++◌, ap, arith}
 use Rattle.luf_doc.specs.Document.{document_of}
 use Rattle.luf_doc.specs.Table.{rows_from}
 use Rattle.luf_doc.proofs.AddLoop.{left_of, last_left, adding_first, adding_more, added_size, added_rows}

@@ -1,4 +1,4 @@
-use Rattle.std.proofs.Common.{◌≡◌, ℕ, length, vec_len}
+use Rattle.std.proofs.Common.{◌≡◌, length, vec_len}
 use Rattle.luf_doc.specs.Document.{document_of}
 use Rattle.luf_doc.specs.Table.{node_count}
 use Rattle.luf_doc.proofs.AddLoop.{Adding, left_of}

@@ -1,10 +1,9 @@
 -- The whole table is laid, with nothing written and nothing behind it.
-use Rattle.std.proofs.Common.{◌≡◌, ◌≤◌, ◌<◌, ◌+◌, ◌++◌, ◌∙◌, ℕ, List, [], ap, sym, subst, arith}
-use Rattle.luf_doc.specs.Document.{Document, document_of}
+use Rattle.std.proofs.Common.{◌≡◌, ◌++◌, ◌∙◌, ℕ, List, [], ap, arith}
+use Rattle.luf_doc.specs.Document.{document_of}
 use Rattle.luf_doc.specs.Table.{node_count}
 use Rattle.luf_doc.specs.Layout.{outside, lay}
 use Rattle.luf_style.specs.inner.Shows.{written}
-use Rattle.luf_style.specs.inner.Ahead.{part}
 use Rattle.luf_style.specs.inner.Leads.{lead_at}
 use Rattle.luf_style.proofs.AheadLaws.{part_first, some_count, lead_last}
 use Rattle.luf_style.proofs.SheetLaws.{written_joined}

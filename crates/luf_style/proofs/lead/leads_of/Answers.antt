@@ -1,9 +1,6 @@
 -- A row's lead is known by the one behind it.
-use Rattle.std.proofs.Common.{◌≡◌, ◌≤◌, ◌<◌, ◌≢◌, ◌+◌, ◌-◌, ◌∙◌, ◌⊎◌, ℕ, List, ap, sym, arith, min, length, get_or, set, ⊎_elim}
-use Rattle.std.proofs.lemmas.List.{get_or-replicate}
+use Rattle.std.proofs.Common.{◌-◌, arith}
 use Rattle.luf_doc.specs.Document.{document_of}
-use Rattle.luf_style.specs.inner.Leads.{lead_at}
-use Rattle.luf_style.proofs.AheadLaws.{lead_last}
 use Rattle.luf_style.proofs.LeadLoop.{leads_last, leads_more}
 use Rattle.luf_style.proofs.lead.leads_of.Goals as goal
 

@@ -1,5 +1,5 @@
 -- One byte more.
-use Rattle.std.proofs.Common.{◌≡◌, ◌+◌, ◌∙◌, ◌∷◌, ℕ, ap, sym, arith, min, drop, get_or}
+use Rattle.std.proofs.Common.{◌≡◌, ◌+◌, ◌∙◌, ◌∷◌, ap, sym, arith, min, drop, get_or}
 use Rattle.std.proofs.lemmas.List.{drop_more, drop_all}
 use Rattle.luf_doc.specs.Layout.{column_after}
 use Rattle.luf_style.proofs.SheetLaws.{capped_column, column_more}

@@ -1,5 +1,5 @@
 -- One line end, or two.
-use Rattle.std.proofs.Common.{◌≡◌, ◌∙◌, [], ◌++◌, Bool, cond, ap, sym, append-nil}
+use Rattle.std.proofs.Common.{◌∙◌, [], ◌++◌, Bool, cond, ap, sym, append-nil}
 use Rattle.std.proofs.lemmas.Result.{on_ok_weaker}
 use Rattle.luf_doc.specs.Layout.{written_line_end}
 use Rattle.luf_style.proofs.sheet.write_line_ends.Goals as goal

@@ -1,6 +1,5 @@
 -- The first line end of a text is where its count ends.
-use Rattle.std.proofs.Common.{◌≡◌, ◌∙◌, ap, min, false}
-use Rattle.luf_doc.specs.declared.size.Size.{Size}
+use Rattle.std.proofs.Common.{◌∙◌, ap, min, false}
 use Rattle.luf_doc.proofs.FlatLaws.{text_size}
 use Rattle.luf_doc.proofs.size.Size.of_text.Goals as goal
 

@@ -1,5 +1,5 @@
 -- The rows are those of the document.
-use Rattle.std.proofs.Common.{◌≡◌, ◌<◌, Some, ◌∙◌, ap, sym, subst, arith, slice_get}
+use Rattle.std.proofs.Common.{◌≡◌, ◌<◌, Some, ap, sym, subst, arith, slice_get}
 use Rattle.luf_doc.specs.declared.doc.Doc.{Doc}
 use Rattle.luf_doc.specs.Document.{document_of}
 use Rattle.luf_doc.specs.Table.{node_count, rows_of}

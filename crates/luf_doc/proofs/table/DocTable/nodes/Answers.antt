@@ -1,5 +1,5 @@
 -- There is a row for each node.
-use Rattle.std.proofs.Common.{◌≡◌, ◌∙◌, ap, sym, arith}
+use Rattle.std.proofs.Common.{ap, arith}
 use Rattle.luf_doc.specs.declared.doc.Doc.{Doc}
 use Rattle.luf_doc.specs.Document.{document_of}
 use Rattle.luf_doc.specs.Table.{node_count}

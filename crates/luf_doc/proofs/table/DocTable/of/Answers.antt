@@ -1,6 +1,5 @@
 -- The rows are those of the document, and so the table is of it.
-use Rattle.std.proofs.Common.{◌≡◌, ◌∙◌, ◌++◌, ap, List}
-use Rattle.luf_doc.specs.declared.table.Node.{Node}
+use Rattle.std.proofs.Common.{◌∙◌, ◌++◌, ap}
 use Rattle.luf_doc.specs.Document.{document_of}
 use Rattle.luf_doc.specs.Table.{rows_from}
 use Rattle.luf_doc.specs.inner.Read.{document_in}

@@ -1,5 +1,5 @@
 -- What is laid of each kind of node, and of the nodes inside one.
-use Rattle.std.proofs.Common.{rules, ◌≡◌, ◌≤◌, ◌<◌, ◌+◌, ◌++◌, ◌∙◌, ℕ, List, [], ◌∷◌, ap, sym, subst, arith, min, drop, get_or, cond, length}
+use Rattle.std.proofs.Common.{rules, ◌≡◌, ◌+◌, ◌∙◌, ℕ, List, ◌∷◌, ap, sym, subst, arith, min, drop, get_or, cond}
 use Rattle.std.proofs.lemmas.List.{drop_more, drop_all, get_or-drop}
 use Rattle.std.proofs.lemmas.Result.{on_ok_weaker}
 use Rattle.luf_doc.specs.declared.table.Node.{Node}
@@ -7,7 +7,7 @@ use Rattle.luf_doc.specs.declared.table.NodeKind.TheVariants as kind
 use Rattle.luf_doc.specs.Document.{document_of}
 use Rattle.luf_doc.specs.Flat.{flat}
 use Rattle.luf_doc.specs.Table.{node_count, places, inside}
-use Rattle.luf_doc.specs.Layout.{Piece, Mode, column_of, mode_of, lay, lay_all}
+use Rattle.luf_doc.specs.Layout.{Mode, column_of, mode_of, lay, lay_all}
 use Rattle.luf_style.specs.inner.Ahead.{part}
 use Rattle.luf_style.specs.inner.Leads.{lead_at}
 use Rattle.luf_style.specs.inner.Modes.{mode_as}

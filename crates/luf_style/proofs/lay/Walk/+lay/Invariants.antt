@@ -1,4 +1,4 @@
-use Rattle.std.proofs.Common.{◌≡◌, ◌≤◌, ◌<◌, ◌+◌, ◌*◌, ◌-◌, List, ℕ, drop}
+use Rattle.std.proofs.Common.{◌+◌, ◌*◌, ◌-◌, drop}
 use Rattle.luf_doc.specs.Document.{document_of}
 use Rattle.luf_doc.specs.Table.{node_count}
 use Rattle.luf_style.specs.inner.Modes.{mode_as}
