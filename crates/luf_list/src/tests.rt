@@ -62,7 +62,7 @@ fn lists_integers_and_floats(rt: HostRuntime) -> Result<(), Fail> {
     Ok(())
 }
 
-/// A function inside, an `Ax` operand and `k`.
+/// The listing of `local t={} function g() return a+t.x end`: a function inside, `Ax` and `k`.
 #[test]
 fn lists_a_function_inside(rt: HostRuntime) -> Result<(), Fail> {
     let alloc = rt.alloc();
