@@ -35,7 +35,7 @@ pub unary_found : {toks : List Tok} {i j k left inner : ℕ} {tok : Tok} {e : Ex
     → Found toks (j + 1) k inner (expr_levels e) (IsOperand toks j k e)
     → Found toks (i + 1) k left (expr_levels (expression i k (expr.Unary e))) (IsOperand toks i k (expression i k (expr.Unary e)))
 unary_found {toks} {i} {j} {k} {left} {inner} {tok} {e} t u lev h =
-    let next = t.next in record { derived = g.unary_operand t u h.derived; forward = omega arith; within = omega arith; level = omega (arith, lv.unary_levels i k e) }
+    let next = t.next in record { is = g.unary_operand t u h.is; ends = record { forward = omega arith; within = omega arith }; level = omega (arith, lv.unary_levels i k e) }
 
 pub power_found : {toks : List Tok} {i j k l left inner : ℕ} {a x : Expr}
     → Found toks (i + 1) j left (expr_levels a) (IsSimple toks i j a)
@@ -44,19 +44,19 @@ pub power_found : {toks : List Tok} {i j k l left inner : ℕ} {a x : Expr}
     → Found toks (k + 1) l inner (expr_levels x) (IsOperand toks k l x)
     → Found toks (i + 1) l left (expr_levels (expression i l (expr.Power a j x))) (IsOperand toks i l (expression i l (expr.Power a j x)))
 power_found {toks} {i} {j} {k} {l} {left} {inner} {a} {x} h t lev h2 =
-    let next = t.next in record { derived = g.power_operand h.derived t h2.derived; forward = omega arith; within = omega arith; level = omega (arith, lv.power_levels i l a j x) }
+    let next = t.next in record { is = g.power_operand h.is t h2.is; ends = record { forward = omega arith; within = omega arith }; level = omega (arith, lv.power_levels i l a j x) }
 
 pub simple_found : {toks : List Tok} {i j left : ℕ} {e : Expr}
     → Found toks (i + 1) j left (expr_levels e) (IsSimple toks i j e)
     → Found toks (i + 1) j left (expr_levels e) (IsOperand toks i j e)
 simple_found {toks} {i} {j} {left} {e} h =
-    record { derived = g.simple_operand h.derived; forward = h.forward; within = h.within; level = h.level }
+    record { is = g.simple_operand h.is; ends = h.ends; level = h.level }
 
 pub operand_found : {toks : List Tok} {n i j left : ℕ} {e : Expr}
     → Found toks (i + 1) j left (expr_levels e) (IsOperand toks i j e)
     → Found toks (i + 1) j left (expr_levels e) (IsExpr toks n i j e)
 operand_found {toks} {n} {i} {j} {left} {e} h =
-    record { derived = g.operand_expr h.derived; forward = h.forward; within = h.within; level = h.level }
+    record { is = g.operand_expr h.is; ends = h.ends; level = h.level }
 
 -- an expression of a level is one of each lower level
 pub weaken : {toks : List Tok} {n i j : ℕ} {e : Expr} (m : ℕ) → m ≤ n → IsExpr toks n i j e → IsExpr toks m i j e
@@ -68,7 +68,7 @@ pub weaken_found : {toks : List Tok} {m n i j left : ℕ} {e : Expr}
     → Found toks (i + 1) j left (expr_levels e) (IsExpr toks n i j e)
     → Found toks (i + 1) j left (expr_levels e) (IsExpr toks m i j e)
 weaken_found {toks} {m} {n} {i} {j} {left} {e} le h =
-    record { derived = weaken m le h.derived; forward = h.forward; within = h.within; level = h.level }
+    record { is = weaken m le h.is; ends = h.ends; level = h.level }
 
 pub chain_found : {toks : List Tok} {level i j k left : ℕ} {a : Expr} {rest : List Step}
     → 0 < level
@@ -79,7 +79,7 @@ pub chain_found : {toks : List Tok} {level i j k left : ℕ} {a : Expr} {rest : 
     → deepest (map step_levels rest) ≤ left
     → Found toks (i + 1) k left (expr_levels (expression i k (expr.Chain a rest))) (IsExpr toks level i k (expression i k (expr.Chain a rest)))
 chain_found {toks} {level} {i} {j} {k} {left} {a} {rest} pos h d fw w ls =
-    record { derived = g.chain_expr pos (omega arith) h.derived d; forward = omega arith; within = omega arith; level = omega (arith, lv.chain_levels i k a rest) }
+    record { is = g.chain_expr pos (omega arith) h.is d; ends = record { forward = omega arith; within = omega arith }; level = omega (arith, lv.chain_levels i k a rest) }
 
 -- no operator of a level stands at a place; so if one stood there, it was of another
 pub operator_at : {toks : List Tok} {i j : ℕ} {tok : Tok} (level : ℕ) → IsToken toks i tok j → precedence_at toks i ≡ level → binary_precedence tok ≡ level
@@ -91,13 +91,13 @@ pub function_found : {toks : List Tok} {i j k left inner : ℕ} {f : FuncBody}
     → Found toks (j + 1) k inner (body_levels f) (IsFuncBody toks j k f)
     → Found toks (i + 1) k left (expr_levels (expression i k (expr.Function f))) (IsSimple toks i k (expression i k (expr.Function f)))
 function_found {toks} {i} {j} {k} {left} {inner} {f} t lev h =
-    let next = t.next in record { derived = g.function_simple t h.derived; forward = omega arith; within = omega arith; level = omega (arith, lv.function_levels i k f) }
+    let next = t.next in record { is = g.function_simple t h.is; ends = record { forward = omega arith; within = omega arith }; level = omega (arith, lv.function_levels i k f) }
 
 pub table_expr_found : {toks : List Tok} {i j left : ℕ} {fields : List Field}
     → Found toks (i + 1) j left (deepest (map field_levels fields) + 1) (IsTable toks i j fields)
     → Found toks (i + 1) j left (expr_levels (expression i j (expr.Table fields))) (IsSimple toks i j (expression i j (expr.Table fields)))
 table_expr_found {toks} {i} {j} {left} {fields} h =
-    record { derived = g.table_simple h.derived; forward = omega arith; within = omega arith; level = omega (arith, lv.table_levels i j fields) }
+    record { is = g.table_simple h.is; ends = record { forward = omega arith; within = omega arith }; level = omega (arith, lv.table_levels i j fields) }
 
 pub table_found : {toks : List Tok} {i j k l left inner : ℕ} {fields : List Field}
     → IsToken toks i (Sign sign.LeftBrace) j
@@ -107,7 +107,7 @@ pub table_found : {toks : List Tok} {i j k l left inner : ℕ} {fields : List Fi
     → l ≤ length toks
     → Found toks (i + 1) l left (deepest (map field_levels fields) + 1) (IsTable toks i l fields)
 table_found {toks} {i} {j} {k} {l} {left} {inner} {fields} t lev h t2 w =
-    let n = t.next in let n2 = t2.next in record { derived = g.table t h.derived t2; forward = omega arith; within = omega arith; level = omega arith }
+    let n = t.next in let n2 = t2.next in record { is = g.table t h.is t2; ends = record { forward = omega arith; within = omega arith }; level = omega arith }
 
 pub keyed_found : {toks : List Tok} {i j k l o p left inner : ℕ} {key value : Expr} {box : Expr}
     → IsToken toks i (Sign sign.LeftBracket) j
@@ -120,7 +120,7 @@ pub keyed_found : {toks : List Tok} {i j k l o p left inner : ℕ} {key value : 
     → Found toks (i + 1) p left (field_levels (field.Keyed box value)) (IsField toks i p (field.Keyed box value))
 keyed_found {toks} {i} {j} {k} {l} {o} {p} {left} {inner} {key} {value} {box} t lev h t2 t3 h2 e0 =
     subst (λ (z : Expr). Found toks (i + 1) p left (field_levels (field.Keyed z value)) (IsField toks i p (field.Keyed z value))) (sym e0)
-    (let n = t.next in let n2 = t2.next in let n3 = t3.next in record { derived = g.keyed_field t h.derived t2 t3 h2.derived; forward = omega arith; within = omega arith; level = omega (arith, lv.keyed_levels key value) })
+    (let n = t.next in let n2 = t2.next in let n3 = t3.next in record { is = g.keyed_field t h.is t2 t3 h2.is; ends = record { forward = omega arith; within = omega arith }; level = omega (arith, lv.keyed_levels key value) })
 
 pub named_found : {toks : List Tok} {i j k l left : ℕ} {value : Expr}
     → IsToken toks i Name j
@@ -128,13 +128,13 @@ pub named_found : {toks : List Tok} {i j k l left : ℕ} {value : Expr}
     → Found toks (k + 1) l left (expr_levels value) (IsExpr toks 1 k l value)
     → Found toks (i + 1) l left (field_levels (field.Named i value)) (IsField toks i l (field.Named i value))
 named_found {toks} {i} {j} {k} {l} {left} {value} t t2 h =
-    let n = t.next in let n2 = t2.next in record { derived = g.named_field t t2 h.derived; forward = omega arith; within = omega arith; level = omega (arith, lv.named_levels i value) }
+    let n = t.next in let n2 = t2.next in record { is = g.named_field t t2 h.is; ends = record { forward = omega arith; within = omega arith }; level = omega (arith, lv.named_levels i value) }
 
 pub item_found : {toks : List Tok} {i j left : ℕ} {value : Expr}
     → Found toks (i + 1) j left (expr_levels value) (IsExpr toks 1 i j value)
     → Found toks (i + 1) j left (field_levels (field.Item value)) (IsField toks i j (field.Item value))
 item_found {toks} {i} {j} {left} {value} h =
-    record { derived = g.item_field h.derived; forward = omega arith; within = omega arith; level = omega (arith, lv.item_levels value) }
+    record { is = g.item_field h.is; ends = record { forward = omega arith; within = omega arith }; level = omega (arith, lv.item_levels value) }
 
 pub paren_found : {toks : List Tok} {i j k l left inner : ℕ} {e : Expr}
     → IsToken toks i (Sign sign.LeftParen) j
@@ -144,14 +144,14 @@ pub paren_found : {toks : List Tok} {i j k l left inner : ℕ} {e : Expr}
     → l ≤ length toks
     → Found toks (i + 1) l left (expr_levels (expression i l (expr.Paren e))) (IsParen toks i l (expression i l (expr.Paren e)))
 paren_found {toks} {i} {j} {k} {l} {left} {inner} {e} t lev h t2 w =
-    let n = t.next in let n2 = t2.next in record { derived = g.paren t h.derived t2; forward = omega arith; within = omega arith; level = omega (arith, lv.paren_levels i l e) }
+    let n = t.next in let n2 = t2.next in record { is = g.paren t h.is t2; ends = record { forward = omega arith; within = omega arith }; level = omega (arith, lv.paren_levels i l e) }
 
 pub name_found : {toks : List Tok} {i j left : ℕ}
     → IsToken toks i Name j
     → j ≤ length toks
     → Found toks (i + 1) j left (expr_levels (expression i j (expr.Name))) (IsVariable toks i j (expression i j (expr.Name)))
 name_found {toks} {i} {j} {left} t w =
-    let n = t.next in record { derived = g.name_variable t; forward = omega arith; within = omega arith; level = omega (arith, lv.name_levels i j) }
+    let n = t.next in record { is = g.name_variable t; ends = record { forward = omega arith; within = omega arith }; level = omega (arith, lv.name_levels i j) }
 
 suffixed_shaped : {toks : List Tok} {i j k : ℕ} {head : Expr} {suffixes : List Suffix} (calls : Bool) → IsHead toks i j head → AreSuffixes toks calls j k suffixes
     → IsShaped toks i k (suffixed_shape calls) (expression i k (expr.Suffixed head suffixes))
@@ -162,7 +162,7 @@ pub suffixed_found : {toks : List Tok} {i j k left : ℕ} {a : Expr} {suffixes :
     → Found toks (i + 1) j left (expr_levels a) (D) → IsHead toks i j a → Found toks (j + 1) k left (deepest (map suffix_levels suffixes)) (AreSuffixes toks calls j k suffixes)
     → Found toks (i + 1) k left (expr_levels (expression i k (expr.Suffixed a suffixes))) (IsShaped toks i k (suffixed_shape calls) (expression i k (expr.Suffixed a suffixes)))
 suffixed_found {toks} {i} {j} {k} {left} {a} {suffixes} calls h head h2 =
-    record { derived = suffixed_shaped calls head h2.derived; forward = omega arith; within = omega arith; level = omega (arith, lv.suffixed_levels i k a suffixes) }
+    record { is = suffixed_shaped calls head h2.is; ends = record { forward = omega arith; within = omega arith }; level = omega (arith, lv.suffixed_levels i k a suffixes) }
 
 shaped_prefix : {toks : List Tok} {i j : ℕ} {e : Expr} (shape : Shape) → IsShaped toks i j shape e → IsPrefix toks i j e
 shaped_prefix shape.Variable h = g.variable_prefix h
@@ -170,7 +170,7 @@ shaped_prefix shape.Call h = g.call_prefix h
 shaped_prefix shape.Paren h = g.paren_prefix h
 
 pub prefix_found : {toks : List Tok} {i j left : ℕ} {e : Expr} (shape : Shape) → Found toks (i + 1) j left (expr_levels e) (IsShaped toks i j shape e) → NoParenFollows toks j → Found toks (i + 1) j left (expr_levels e) (IsSimple toks i j e)
-prefix_found shape h closed = record { derived = g.prefix_simple (shaped_prefix shape h.derived) closed; forward = h.forward; within = h.within; level = h.level }
+prefix_found shape h closed = record { is = g.prefix_simple (shaped_prefix shape h.is) closed; ends = h.ends; level = h.level }
 
 pub dot_found : {toks : List Tok} {i j k left : ℕ}
     → IsToken toks i (Sign sign.Dot) j
@@ -178,7 +178,7 @@ pub dot_found : {toks : List Tok} {i j k left : ℕ}
     → k ≤ length toks
     → Found toks (i + 1) k left (suffix_levels (suffix.Dot j)) (IsSuffix toks false i k (suffix.Dot j))
 dot_found {toks} {i} {j} {k} {left} t t2 w =
-    let n = t.next in let n2 = t2.next in record { derived = g.dot_suffix t t2; forward = omega arith; within = omega arith; level = omega (arith, lv.dot_levels j) }
+    let n = t.next in let n2 = t2.next in record { is = g.dot_suffix t t2; ends = record { forward = omega arith; within = omega arith }; level = omega (arith, lv.dot_levels j) }
 
 pub index_found : {toks : List Tok} {i j k l left inner : ℕ} {e : Expr} {box : Expr}
     → IsToken toks i (Sign sign.LeftBracket) j
@@ -190,13 +190,13 @@ pub index_found : {toks : List Tok} {i j k l left inner : ℕ} {e : Expr} {box :
     → Found toks (i + 1) l left (suffix_levels (suffix.Index box)) (IsSuffix toks false i l (suffix.Index box))
 index_found {toks} {i} {j} {k} {l} {left} {inner} {e} {box} t lev h t2 w e0 =
     subst (λ (z : Expr). Found toks (i + 1) l left (suffix_levels (suffix.Index z)) (IsSuffix toks false i l (suffix.Index z))) (sym e0)
-    (let n = t.next in let n2 = t2.next in record { derived = g.index_suffix t h.derived t2; forward = omega arith; within = omega arith; level = omega (arith, lv.index_levels e) })
+    (let n = t.next in let n2 = t2.next in record { is = g.index_suffix t h.is t2; ends = record { forward = omega arith; within = omega arith }; level = omega (arith, lv.index_levels e) })
 
 pub call_found : {toks : List Tok} {i j left : ℕ} {args : Args}
     → Found toks (i + 1) j left (args_levels args) (IsArgs toks i j args)
     → Found toks (i + 1) j left (suffix_levels (suffix.Call args)) (IsSuffix toks true i j (suffix.Call args))
 call_found {toks} {i} {j} {left} {args} h =
-    record { derived = g.call_suffix h.derived; forward = omega arith; within = omega arith; level = omega (arith, lv.call_suffix_levels args) }
+    record { is = g.call_suffix h.is; ends = record { forward = omega arith; within = omega arith }; level = omega (arith, lv.call_suffix_levels args) }
 
 pub method_found : {toks : List Tok} {i j k l left : ℕ} {args : Args}
     → IsToken toks i (Sign sign.Colon) j
@@ -204,7 +204,7 @@ pub method_found : {toks : List Tok} {i j k l left : ℕ} {args : Args}
     → Found toks (k + 1) l left (args_levels args) (IsArgs toks k l args)
     → Found toks (i + 1) l left (suffix_levels (suffix.Method j args)) (IsSuffix toks true i l (suffix.Method j args))
 method_found {toks} {i} {j} {k} {l} {left} {args} t t2 h =
-    let n = t.next in let n2 = t2.next in record { derived = g.method_suffix t t2 h.derived; forward = omega arith; within = omega arith; level = omega (arith, lv.method_levels j args) }
+    let n = t.next in let n2 = t2.next in record { is = g.method_suffix t t2 h.is; ends = record { forward = omega arith; within = omega arith }; level = omega (arith, lv.method_levels j args) }
 
 pub no_args_found : {toks : List Tok} {i j k left : ℕ} (inner : ℕ) {none : List Expr}
     → IsToken toks i (Sign sign.LeftParen) j
@@ -215,7 +215,7 @@ pub no_args_found : {toks : List Tok} {i j k left : ℕ} (inner : ℕ) {none : L
     → Found toks (i + 1) k left (args_levels (roll-Args (record { from = i; to = k; parens = true; items = none }))) (IsArgs toks i k (roll-Args (record { from = i; to = k; parens = true; items = none })))
 no_args_found {toks} {i} {j} {k} {left} inner {none} t lev t2 w en =
     subst (λ (z : List Expr). Found toks (i + 1) k left (args_levels (roll-Args (record { from = i; to = k; parens = true; items = z }))) (IsArgs toks i k (roll-Args (record { from = i; to = k; parens = true; items = z })))) (sym en)
-    (let n = t.next in let n2 = t2.next in record { derived = g.no_args t t2; forward = omega arith; within = omega arith; level = omega (arith, lv.args_of_levels i k true []) })
+    (let n = t.next in let n2 = t2.next in record { is = g.no_args t t2; ends = record { forward = omega arith; within = omega arith }; level = omega (arith, lv.args_of_levels i k true []) })
 
 pub list_args_found : {toks : List Tok} {i j k l left inner : ℕ} {es : List Expr}
     → IsToken toks i (Sign sign.LeftParen) j
@@ -225,7 +225,7 @@ pub list_args_found : {toks : List Tok} {i j k l left inner : ℕ} {es : List Ex
     → l ≤ length toks
     → Found toks (i + 1) l left (args_levels (roll-Args (record { from = i; to = l; parens = true; items = es }))) (IsArgs toks i l (roll-Args (record { from = i; to = l; parens = true; items = es })))
 list_args_found {toks} {i} {j} {k} {l} {left} {inner} {es} t lev h t2 w =
-    let n = t.next in let n2 = t2.next in record { derived = g.list_args t h.derived t2; forward = omega arith; within = omega arith; level = omega (arith, lv.args_of_levels i l true es) }
+    let n = t.next in let n2 = t2.next in record { is = g.list_args t h.is t2; ends = record { forward = omega arith; within = omega arith }; level = omega (arith, lv.args_of_levels i l true es) }
 
 pub string_arg_found : {toks : List Tok} {i j left : ℕ} (inner : ℕ)
     → IsString toks i j
@@ -234,14 +234,14 @@ pub string_arg_found : {toks : List Tok} {i j left : ℕ} (inner : ℕ)
     → j ≤ length toks
     → Found toks (i + 1) j left (expr_levels (expression i j (expr.Str)) + 1) (IsArgs toks i j (lone_args i (expression i j (expr.Str))))
 string_arg_found {toks} {i} {j} {left} inner t n lev w =
-    record { derived = g.string_args t; forward = omega arith; within = omega arith; level = omega (arith, lv.string_levels i j) }
+    record { is = g.string_args t; ends = record { forward = omega arith; within = omega arith }; level = omega (arith, lv.string_levels i j) }
 
 pub table_arg_found : {toks : List Tok} {i j left inner : ℕ} {fields : List Field}
     → left ≡ inner + 1
     → Found toks (i + 1) j inner (deepest (map field_levels fields) + 1) (IsTable toks i j fields)
     → Found toks (i + 1) j left (expr_levels (expression i j (expr.Table fields)) + 1) (IsArgs toks i j (lone_args i (expression i j (expr.Table fields))))
 table_arg_found {toks} {i} {j} {left} {inner} {fields} lev h =
-    record { derived = g.table_args h.derived; forward = omega arith; within = omega arith; level = omega (arith, lv.table_levels i j fields) }
+    record { is = g.table_args h.is; ends = record { forward = omega arith; within = omega arith }; level = omega (arith, lv.table_levels i j fields) }
 
 pub func_body_found : {toks : List Tok} {i j k l o p left : ℕ} {body : Block} {params : List ℕ} {vararg : Bool}
     → IsToken toks i (Sign sign.LeftParen) j
@@ -252,7 +252,7 @@ pub func_body_found : {toks : List Tok} {i j k l o p left : ℕ} {body : Block} 
     → p ≤ length toks
     → Found toks (i + 1) p left (body_levels (roll-FuncBody (record { from = i; to = p; params = params; vararg = vararg; body = body }))) (IsFuncBody toks i p (roll-FuncBody (record { from = i; to = p; params = params; vararg = vararg; body = body })))
 func_body_found {toks} {i} {j} {k} {l} {o} {p} {left} {body} {params} {vararg} t h t2 h2 t3 w =
-    let n = t.next in let n2 = t2.next in let n3 = t3.next in record { derived = g.func_body t h.derived t2 h2.derived t3; forward = omega arith; within = omega arith; level = omega (arith, lv.body_of_levels i p params vararg body) }
+    let n = t.next in let n2 = t2.next in let n3 = t3.next in record { is = g.func_body t h.is t2 h2.is t3; ends = record { forward = omega arith; within = omega arith }; level = omega (arith, lv.body_of_levels i p params vararg body) }
 
 pub block_found : {toks : List Tok} {i j left : ℕ} {stats : List Stat}
     → AreStats toks i j stats
@@ -261,7 +261,7 @@ pub block_found : {toks : List Tok} {i j left : ℕ} {stats : List Stat}
     → deepest (map stat_levels stats) ≤ left
     → Found toks i j left (block_levels (roll-Block (record { from = i; to = j; stats = stats }))) (IsBlock toks i j (roll-Block (record { from = i; to = j; stats = stats })))
 block_found {toks} {i} {j} {left} {stats} h fw w ls =
-    record { derived = g.block h; forward = omega arith; within = omega arith; level = omega (arith, lv.block_of_levels i j stats) }
+    record { is = g.block h; ends = record { forward = omega arith; within = omega arith }; level = omega (arith, lv.block_of_levels i j stats) }
 
 pub return_nothing_found : {toks : List Tok} {i j k left : ℕ} {none : List Expr}
     → IsToken toks i (Word word.Return) j
@@ -270,7 +270,7 @@ pub return_nothing_found : {toks : List Tok} {i j k left : ℕ} {none : List Exp
     → Found toks (i + 1) k left (stat_levels (statement i k (stat.Return none))) (IsReturn toks i k (statement i k (stat.Return none)))
 return_nothing_found {toks} {i} {j} {k} {left} {none} t h en =
     subst (λ (z : List Expr). Found toks (i + 1) k left (stat_levels (statement i k (stat.Return z))) (IsReturn toks i k (statement i k (stat.Return z)))) (sym en)
-    (let n = t.next in record { derived = g.return_nothing t h.derived; forward = omega arith; within = omega arith; level = omega (arith, lv.return_levels i k []) })
+    (let n = t.next in record { is = g.return_nothing t h.is; ends = record { forward = omega arith; within = omega arith }; level = omega (arith, lv.return_levels i k []) })
 
 pub return_values_found : {toks : List Tok} {i j k l left : ℕ} {es : List Expr}
     → IsToken toks i (Word word.Return) j
@@ -278,7 +278,7 @@ pub return_values_found : {toks : List Tok} {i j k l left : ℕ} {es : List Expr
     → Found toks k l 0 (0) (IsSemicolon toks k l)
     → Found toks (i + 1) l left (stat_levels (statement i l (stat.Return es))) (IsReturn toks i l (statement i l (stat.Return es)))
 return_values_found {toks} {i} {j} {k} {l} {left} {es} t h h2 =
-    let n = t.next in record { derived = g.return_values t h.derived h2.derived; forward = omega arith; within = omega arith; level = omega (arith, lv.return_levels i l es) }
+    let n = t.next in record { is = g.return_values t h.is h2.is; ends = record { forward = omega arith; within = omega arith }; level = omega (arith, lv.return_levels i l es) }
 
 -- its end is the one that it was made with
 pub made_block : {toks : List Tok} {from left : ℕ} (i j : ℕ) (stats : List Stat) → Found toks from j left (block_levels (roll-Block (record { from = i; to = j; stats = stats }))) (IsBlock toks i j (roll-Block (record { from = i; to = j; stats = stats })))

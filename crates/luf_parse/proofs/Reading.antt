@@ -18,8 +18,8 @@ use Rattle.luf_tree.specs.Grammar.{IsToken, IsVariable, IsBlock, AreStats, IsRet
 use Rattle.luf_tree.proofs.TokenLaws.{expr_starts, stat_starts}
 use Rattle.luf_parse.specs.inner.Exact.{Then}
 use Rattle.luf_parse.specs.inner.Follow.{NotAt, EndsExprs, ends_block, word_stops_stats, stops_stats, ends_return, EndsBlock, follows_stat, EndsStat, sign_continues, continues_prefix}
-use Rattle.luf_parse.specs.inner.Parts.{Part, ReadBlock, ReadEnded, ReadStat, ReadReturn, ReadVariable}
-use Rattle.luf_parse.specs.inner.Reads.{begins_suffix}
+use Rattle.luf_parse.specs.inner.Parts.{ReadBlock, ReadEnded, ReadStat, ReadReturn, ReadVariable}
+use Rattle.luf_parse.specs.inner.Reads.{Part, begins_suffix}
 use Rattle.luf_parse.proofs.Ends.{moved, variable_to, block_to, return_to, stat_to}
 use Rattle.luf_parse.proofs.Following.{block_ends_stat, stat_ends_exprs, closed_suffix}
 

@@ -22,8 +22,8 @@ use Rattle.luf_tree.specs.Grammar.{At, expression, statement, IsToken, NoParenFo
 use Rattle.luf_tree.proofs.LevelEquations as lv
 use Rattle.luf_parse.specs.inner.Exact.{Alone, Then, Enters}
 use Rattle.luf_parse.specs.inner.Follow.{NotAt, EndsExpr, ends_block, stops_stats, ends_arms, follows_stat, ends_return, begins_prefix, EndsBlock, EndsStat, EndsArms}
-use Rattle.luf_parse.specs.inner.Parts.{Part, ReadExpr, ReadExprs, ReadFuncBody, ReadParams, ReadBlock, ReadStats, ReadSemicolon, ReadReturn, ReadShort, ReadStat, ReadLabel, ReadGoto, ReadDo, ReadWhile, ReadRepeat, ReadArms, ReadArm, ReadElse, ReadIf, ReadForStep, ReadCount, ReadFor, ReadFunctionStat, ReadLocalFunction, ReadLocal, ReadVariable, ReadMoreTargets, ReadExprStat, ReadPrefix}
-use Rattle.luf_parse.specs.inner.Reads.{token_begins_suffix, begins_suffix}
+use Rattle.luf_parse.specs.inner.Parts.{ReadExpr, ReadExprs, ReadFuncBody, ReadParams, ReadBlock, ReadStats, ReadSemicolon, ReadReturn, ReadShort, ReadStat, ReadLabel, ReadGoto, ReadDo, ReadWhile, ReadRepeat, ReadArms, ReadArm, ReadElse, ReadIf, ReadForStep, ReadCount, ReadFor, ReadFunctionStat, ReadLocalFunction, ReadLocal, ReadVariable, ReadMoreTargets, ReadExprStat, ReadPrefix}
+use Rattle.luf_parse.specs.inner.Reads.{Part, token_begins_suffix, begins_suffix}
 use Rattle.luf_parse.specs.declared.prefixes.Shape.TheVariants.{Variable, Call}
 use Rattle.luf_tree.specs.First.{starts_stat}
 use Rattle.luf_tree.proofs.TokenLaws.{stat_starts}

@@ -25,14 +25,14 @@ pub break_found : {toks : List Tok} {i j left : ℕ}
     → j ≤ length toks
     → Found toks (i + 1) j left (stat_levels (statement i j (stat.Break))) (IsStat toks i j (statement i j (stat.Break)))
 break_found {toks} {i} {j} {left} t w =
-    let n = t.next in record { derived = g.break_stat t; forward = omega arith; within = omega arith; level = omega (arith, lv.break_levels i j) }
+    let n = t.next in record { is = g.break_stat t; ends = record { forward = omega arith; within = omega arith }; level = omega (arith, lv.break_levels i j) }
 
 pub empty_found : {toks : List Tok} {i j left : ℕ}
     → IsToken toks i (Sign sign.Semicolon) j
     → j ≤ length toks
     → Found toks (i + 1) j left (stat_levels (statement i j (stat.Empty))) (IsStat toks i j (statement i j (stat.Empty)))
 empty_found {toks} {i} {j} {left} t w =
-    let n = t.next in record { derived = g.empty_stat t; forward = omega arith; within = omega arith; level = omega (arith, lv.empty_levels i j) }
+    let n = t.next in record { is = g.empty_stat t; ends = record { forward = omega arith; within = omega arith }; level = omega (arith, lv.empty_levels i j) }
 
 -- a block that a token enters, and its `end`
 pub ended_found : {toks : List Tok} {i k left inner : ℕ} {body box : Block}
@@ -44,14 +44,14 @@ pub ended_found : {toks : List Tok} {i k left inner : ℕ} {body box : Block}
     → Found toks (i + 1) k left (block_levels box + 1) (IsBlock toks i (out-Block box).to box × IsToken toks (out-Block box).to (Word word.End) k)
 ended_found {toks} {i} {k} {left} {inner} {body} {box} lev h t w e0 =
     subst (λ (z : Block). Found toks (i + 1) k left (block_levels z + 1) (IsBlock toks i (out-Block z).to z × IsToken toks (out-Block z).to (Word word.End) k)) (sym e0)
-    (let n = t.next in record { derived = (h.derived, t); forward = omega arith; within = w; level = omega arith })
+    (let n = t.next in record { is = (h.is, t); ends = record { forward = omega arith; within = w }; level = omega arith })
 
 pub do_found : {toks : List Tok} {i j k l left : ℕ} {body : Block}
     → IsToken toks i (Word word.Do) j
     → Found toks (j + 1) l left (block_levels body + 1) (IsBlock toks j k body × IsToken toks k (Word word.End) l)
     → Found toks (i + 1) l left (stat_levels (statement i l (stat.Do body))) (IsStat toks i l (statement i l (stat.Do body)))
 do_found {toks} {i} {j} {k} {l} {left} {body} t h =
-    let n = t.next in record { derived = g.do_stat t h.derived.0 h.derived.1; forward = omega arith; within = omega arith; level = omega (arith, lv.do_levels i l body) }
+    let n = t.next in record { is = g.do_stat t h.is.0 h.is.1; ends = record { forward = omega arith; within = omega arith }; level = omega (arith, lv.do_levels i l body) }
 
 pub while_found : {toks : List Tok} {i j k l o p left : ℕ} {e : Expr} {body : Block}
     → IsToken toks i (Word word.While) j
@@ -60,7 +60,7 @@ pub while_found : {toks : List Tok} {i j k l o p left : ℕ} {e : Expr} {body : 
     → Found toks (l + 1) p left (block_levels body + 1) (IsBlock toks l o body × IsToken toks o (Word word.End) p)
     → Found toks (i + 1) p left (stat_levels (statement i p (stat.While e body))) (IsStat toks i p (statement i p (stat.While e body)))
 while_found {toks} {i} {j} {k} {l} {o} {p} {left} {e} {body} t h t2 h2 =
-    let n = t.next in let n2 = t2.next in record { derived = g.while_stat t h.derived t2 h2.derived.0 h2.derived.1; forward = omega arith; within = omega arith; level = omega (arith, lv.while_levels i p e body) }
+    let n = t.next in let n2 = t2.next in record { is = g.while_stat t h.is t2 h2.is.0 h2.is.1; ends = record { forward = omega arith; within = omega arith }; level = omega (arith, lv.while_levels i p e body) }
 
 pub repeat_found : {toks : List Tok} {i j k l o left inner : ℕ} {e : Expr} {body : Block}
     → IsToken toks i (Word word.Repeat) j
@@ -70,7 +70,7 @@ pub repeat_found : {toks : List Tok} {i j k l o left inner : ℕ} {e : Expr} {bo
     → Found toks (l + 1) o left (expr_levels e) (IsExpr toks 1 l o e)
     → Found toks (i + 1) o left (stat_levels (statement i o (stat.Repeat body e))) (IsStat toks i o (statement i o (stat.Repeat body e)))
 repeat_found {toks} {i} {j} {k} {l} {o} {left} {inner} {e} {body} t lev h t2 h2 =
-    let n = t.next in let n2 = t2.next in record { derived = g.repeat_stat t h.derived t2 h2.derived; forward = omega arith; within = omega arith; level = omega (arith, lv.repeat_levels i o body e) }
+    let n = t.next in let n2 = t2.next in record { is = g.repeat_stat t h.is t2 h2.is; ends = record { forward = omega arith; within = omega arith }; level = omega (arith, lv.repeat_levels i o body e) }
 
 pub if_found : {toks : List Tok} {i j k l o left : ℕ} {arms : List Arm} {last : Option Block}
     → IsToken toks i (Word word.If) j
@@ -80,7 +80,7 @@ pub if_found : {toks : List Tok} {i j k l o left : ℕ} {arms : List Arm} {last 
     → o ≤ length toks
     → Found toks (i + 1) o left (stat_levels (statement i o (stat.If arms last))) (IsStat toks i o (statement i o (stat.If arms last)))
 if_found {toks} {i} {j} {k} {l} {o} {left} {arms} {last} t h h2 t2 w =
-    let n = t.next in let n2 = t2.next in record { derived = g.if_stat t h.derived h2.derived t2; forward = omega arith; within = omega arith; level = omega (arith, lv.if_levels i o arms last) }
+    let n = t.next in let n2 = t2.next in record { is = g.if_stat t h.is h2.is t2; ends = record { forward = omega arith; within = omega arith }; level = omega (arith, lv.if_levels i o arms last) }
 
 pub arm_found : {toks : List Tok} {i j k l left inner : ℕ} {e : Expr} {body : Block}
     → Found toks (i + 1) j left (expr_levels e) (IsExpr toks 1 i j e)
@@ -89,7 +89,7 @@ pub arm_found : {toks : List Tok} {i j k l left inner : ℕ} {e : Expr} {body : 
     → Found toks k l inner (block_levels body) (IsBlock toks k l body)
     → Found toks (i + 1) l left (arm_levels (roll-Arm (record { test = e; body = body }))) (IsArm toks i l (roll-Arm (record { test = e; body = body })))
 arm_found {toks} {i} {j} {k} {l} {left} {inner} {e} {body} h t lev h2 =
-    let n = t.next in record { derived = g.arm h.derived t h2.derived; forward = omega arith; within = omega arith; level = omega (arith, lv.arm_of_levels e body) }
+    let n = t.next in record { is = g.arm h.is t h2.is; ends = record { forward = omega arith; within = omega arith }; level = omega (arith, lv.arm_of_levels e body) }
 
 pub else_found : {toks : List Tok} {i j k left inner : ℕ} {body : Block} {box : Block}
     → IsToken toks i (Word word.Else) j
@@ -99,7 +99,7 @@ pub else_found : {toks : List Tok} {i j k left inner : ℕ} {body : Block} {box 
     → Found toks i k left (block_levels box + 1) (IsElse toks i k (Some box))
 else_found {toks} {i} {j} {k} {left} {inner} {body} {box} t lev h e0 =
     subst (λ (z : Block). Found toks i k left (block_levels z + 1) (IsElse toks i k (Some z))) (sym e0)
-    (let n = t.next in record { derived = g.an_else t h.derived; forward = omega arith; within = omega arith; level = omega arith })
+    (let n = t.next in record { is = g.an_else t h.is; ends = record { forward = omega arith; within = omega arith }; level = omega arith })
 
 pub for_step_found : {toks : List Tok} {i j k left : ℕ} {e : Expr} {box : Expr}
     → IsToken toks i (Sign sign.Comma) j
@@ -108,7 +108,7 @@ pub for_step_found : {toks : List Tok} {i j k left : ℕ} {e : Expr} {box : Expr
     → Found toks i k left (expr_levels box) (IsForStep toks i k (Some box))
 for_step_found {toks} {i} {j} {k} {left} {e} {box} t h e0 =
     subst (λ (z : Expr). Found toks i k left (expr_levels z) (IsForStep toks i k (Some z))) (sym e0)
-    (let n = t.next in record { derived = g.a_for_step t h.derived; forward = omega arith; within = omega arith; level = omega arith })
+    (let n = t.next in record { is = g.a_for_step t h.is; ends = record { forward = omega arith; within = omega arith }; level = omega arith })
 
 pub for_in_found : {toks : List Tok} {i j k l o p q r left : ℕ} {es : List Expr} {names : List ℕ} {body : Block}
     → IsToken toks i (Word word.For) j
@@ -119,7 +119,7 @@ pub for_in_found : {toks : List Tok} {i j k l o p q r left : ℕ} {es : List Exp
     → Found toks (p + 1) r left (block_levels body + 1) (IsBlock toks p q body × IsToken toks q (Word word.End) r)
     → Found toks (i + 1) r left (stat_levels (statement i r (stat.ForIn names es body))) (IsStat toks i r (statement i r (stat.ForIn names es body)))
 for_in_found {toks} {i} {j} {k} {l} {o} {p} {q} {r} {left} {es} {names} {body} t h t2 h2 t3 h3 =
-    let n = t.next in let n2 = t2.next in let n3 = t3.next in record { derived = g.for_in_stat t h.derived t2 h2.derived t3 h3.derived.0 h3.derived.1; forward = omega arith; within = omega arith; level = omega (arith, lv.for_in_levels i r names es body) }
+    let n = t.next in let n2 = t2.next in let n3 = t3.next in record { is = g.for_in_stat t h.is t2 h2.is t3 h3.is.0 h3.is.1; ends = record { forward = omega arith; within = omega arith }; level = omega (arith, lv.for_in_levels i r names es body) }
 
 pub for_found : {toks : List Tok} {i j k l m n o p q r s left : ℕ} {first limit : Expr} {step : Option Expr} {body : Block}
     → IsToken toks i (Word word.For) j
@@ -133,7 +133,7 @@ pub for_found : {toks : List Tok} {i j k l m n o p q r s left : ℕ} {first limi
     → Found toks (q + 1) s left (block_levels body + 1) (IsBlock toks q r body × IsToken toks r (Word word.End) s)
     → Found toks (i + 1) s left (stat_levels (statement i s (stat.For j first limit step body))) (IsStat toks i s (statement i s (stat.For j first limit step body)))
 for_found {toks} {i} {j} {k} {l} {m} {n} {o} {p} {q} {r} {s} {left} {first} {limit} {step} {body} t t2 t3 h t4 h2 h3 t5 h4 =
-    let n1 = t.next in let n2 = t2.next in let n3 = t3.next in let n4 = t4.next in let n5 = t5.next in record { derived = g.for_stat t t2 t3 h.derived t4 h2.derived h3.derived t5 h4.derived.0 h4.derived.1; forward = omega arith; within = omega arith; level = omega (arith, lv.for_levels i s j first limit step body) }
+    let n1 = t.next in let n2 = t2.next in let n3 = t3.next in let n4 = t4.next in let n5 = t5.next in record { is = g.for_stat t t2 t3 h.is t4 h2.is h3.is t5 h4.is.0 h4.is.1; ends = record { forward = omega arith; within = omega arith }; level = omega (arith, lv.for_levels i s j first limit step body) }
 
 pub function_stat_found : {toks : List Tok} {i j k l o left inner : ℕ} {path : List ℕ} {method : Option ℕ} {f : FuncBody}
     → IsToken toks i (Word word.Function) j
@@ -143,7 +143,7 @@ pub function_stat_found : {toks : List Tok} {i j k l o left inner : ℕ} {path :
     → Found toks (l + 1) o inner (body_levels f) (IsFuncBody toks l o f)
     → Found toks (i + 1) o left (stat_levels (statement i o (stat.Function path method f))) (IsStat toks i o (statement i o (stat.Function path method f)))
 function_stat_found {toks} {i} {j} {k} {l} {o} {left} {inner} {path} {method} {f} t lev h h2 h3 =
-    let n = t.next in record { derived = g.function_stat t h.derived h2.derived h3.derived; forward = omega arith; within = omega arith; level = omega (arith, lv.function_stat_levels i o path method f) }
+    let n = t.next in record { is = g.function_stat t h.is h2.is h3.is; ends = record { forward = omega arith; within = omega arith }; level = omega (arith, lv.function_stat_levels i o path method f) }
 
 pub local_function_found : {toks : List Tok} {i j k l o left inner : ℕ} {f : FuncBody}
     → IsToken toks i (Word word.Local) j
@@ -153,7 +153,7 @@ pub local_function_found : {toks : List Tok} {i j k l o left inner : ℕ} {f : F
     → Found toks (l + 1) o inner (body_levels f) (IsFuncBody toks l o f)
     → Found toks (i + 1) o left (stat_levels (statement i o (stat.LocalFunction k f))) (IsStat toks i o (statement i o (stat.LocalFunction k f)))
 local_function_found {toks} {i} {j} {k} {l} {o} {left} {inner} {f} t t2 t3 lev h =
-    let n = t.next in let n2 = t2.next in let n3 = t3.next in record { derived = g.local_function_stat t t2 t3 h.derived; forward = omega arith; within = omega arith; level = omega (arith, lv.local_function_levels i o k f) }
+    let n = t.next in let n2 = t2.next in let n3 = t3.next in record { is = g.local_function_stat t t2 t3 h.is; ends = record { forward = omega arith; within = omega arith }; level = omega (arith, lv.local_function_levels i o k f) }
 
 pub local_found : {toks : List Tok} {i j k left : ℕ} {declared : List Declared} {none : List Expr}
     → IsToken toks i (Word word.Local) j
@@ -162,7 +162,7 @@ pub local_found : {toks : List Tok} {i j k left : ℕ} {declared : List Declared
     → Found toks (i + 1) k left (stat_levels (statement i k (stat.Local declared none))) (IsStat toks i k (statement i k (stat.Local declared none)))
 local_found {toks} {i} {j} {k} {left} {declared} {none} t h en =
     subst (λ (z : List Expr). Found toks (i + 1) k left (stat_levels (statement i k (stat.Local declared z))) (IsStat toks i k (statement i k (stat.Local declared z)))) (sym en)
-    (let n = t.next in record { derived = g.local_stat t h.derived; forward = omega arith; within = omega arith; level = omega (arith, lv.local_levels i k declared []) })
+    (let n = t.next in record { is = g.local_stat t h.is; ends = record { forward = omega arith; within = omega arith }; level = omega (arith, lv.local_levels i k declared []) })
 
 pub local_values_found : {toks : List Tok} {i j k l o left : ℕ} {declared : List Declared} {es : List Expr}
     → IsToken toks i (Word word.Local) j
@@ -171,14 +171,14 @@ pub local_values_found : {toks : List Tok} {i j k l o left : ℕ} {declared : Li
     → Found toks (l + 1) o left (deepest (map expr_levels es)) (AreExprs toks l o es)
     → Found toks (i + 1) o left (stat_levels (statement i o (stat.Local declared es))) (IsStat toks i o (statement i o (stat.Local declared es)))
 local_values_found {toks} {i} {j} {k} {l} {o} {left} {declared} {es} t h t2 h2 =
-    let n = t.next in let n2 = t2.next in record { derived = g.local_values_stat t h.derived t2 h2.derived; forward = omega arith; within = omega arith; level = omega (arith, lv.local_levels i o declared es) }
+    let n = t.next in let n2 = t2.next in record { is = g.local_values_stat t h.is t2 h2.is; ends = record { forward = omega arith; within = omega arith }; level = omega (arith, lv.local_levels i o declared es) }
 
 pub call_stat_found : {toks : List Tok} {i j left : ℕ} {e : Expr}
     → Found toks (i + 1) j left (expr_levels e) (IsCall toks i j e)
     → NoParenFollows toks j
     → Found toks (i + 1) j left (stat_levels (statement i j (stat.Call e))) (IsStat toks i j (statement i j (stat.Call e)))
 call_stat_found {toks} {i} {j} {left} {e} h closed =
-    record { derived = g.call_stat h.derived closed; forward = omega arith; within = omega arith; level = omega (arith, lv.call_levels i j e) }
+    record { is = g.call_stat h.is closed; ends = record { forward = omega arith; within = omega arith }; level = omega (arith, lv.call_levels i j e) }
 
 pub assign_found : {toks : List Tok} {i j k l left : ℕ} {targets es : List Expr}
     → Found toks (i + 1) j left (deepest (map expr_levels targets)) (AreTargets toks i j targets)
@@ -186,9 +186,9 @@ pub assign_found : {toks : List Tok} {i j k l left : ℕ} {targets es : List Exp
     → Found toks (k + 1) l left (deepest (map expr_levels es)) (AreExprs toks k l es)
     → Found toks (i + 1) l left (stat_levels (statement i l (stat.Assign targets es))) (IsStat toks i l (statement i l (stat.Assign targets es)))
 assign_found {toks} {i} {j} {k} {l} {left} {targets} {es} h t h2 =
-    let n = t.next in record { derived = g.assign_stat h.derived t h2.derived; forward = omega arith; within = omega arith; level = omega (arith, lv.assign_levels i l targets es) }
+    let n = t.next in record { is = g.assign_stat h.is t h2.is; ends = record { forward = omega arith; within = omega arith }; level = omega (arith, lv.assign_levels i l targets es) }
 
 pub call_shaped : {toks : List Tok} {i j left : ℕ} {e : Expr} (s : Shape) → s ≡ shape.Call → Found toks (i + 1) j left (expr_levels e) (IsShaped toks i j s e) → NoParenFollows toks j
     → Found toks (i + 1) j left (stat_levels (statement i j (stat.Call e))) (IsStat toks i j (statement i j (stat.Call e)))
 call_shaped {toks} {i} {j} {left} {e} s is h closed =
-    call_stat_found (record { derived = subst (λ (z : Shape). IsShaped toks i j z e) is h.derived; forward = h.forward; within = h.within; level = h.level }) closed
+    call_stat_found (record { is = subst (λ (z : Shape). IsShaped toks i j z e) is h.is; ends = h.ends; level = h.level }) closed

@@ -10,11 +10,8 @@ use crate::ParseErr;
 use crate::blocks::block;
 use crate::tokens::refusal;
 use luf_lex::Cut;
-use luf_tree::Chunk;
+use luf_tree::{Chunk, LEVEL_LIMIT};
 use std::alloc::Global;
-
-/// The limit of levels (`level_limit` of luf_tree).
-const LEVELS: u32 = 200;
 
 /// The tree of the tokens of a cut, which nests at most 200 levels deep (Lua 5.4 manual, 9). `one_tree` says that
 /// tokens have at most one.
@@ -38,7 +35,7 @@ fn whole(alloc: Global, cut: &Cut) -> Result<Chunk, ParseErr>
     ensures depth { IfOk result (λ chunk. depth_of chunk ≤ level_limit) }
     ensures refused { IfErr result (IsCause (toks_of cut.now)) }
 {
-    let block = block(alloc, cut, LEVELS, 0)?;
+    let block = block(alloc, cut, LEVEL_LIMIT, 0)?;
     if block.to != cut.tokens() {
         return Err(refusal(cut, block.to));
     }

@@ -30,7 +30,7 @@ abbrev list_made : ℕ → ℕ → List Expr → Args
 list_made i j es = roll-Args (record { from = i; to = j; parens = false; items = es })
 
 pub expressions::expr-chains-init : goal.expressions::expr-chains-init
-expressions::expr-chains-init t c = record { grown = λ e h. then_rest c.in_ok-whole.ensures.only (operand_form e h); part = operand_found c.in_ok-whole.ensures.ok; least = operand_expr c.in_ok-whole.ensures.ok.derived }
+expressions::expr-chains-init t c = record { grown = λ e h. then_rest c.in_ok-whole.ensures.only (operand_form e h); part = operand_found c.in_ok-whole.ensures.ok; least = operand_expr c.in_ok-whole.ensures.ok.is }
 
 pub expressions::expr-chains-preserved : goal.expressions::expr-chains-preserved
 expressions::expr-chains-preserved t c =
@@ -38,12 +38,12 @@ expressions::expr-chains-preserved t c =
     record {
       grown = λ e h. then_rest h0.only (grown_form (sym c.precedence_at-precedence.ensures.value) (omega arith) e (c.chains.invariant.grown e h));
       part = weaken_found (omega (arith, h0.ends)) h0.ok;
-      least = weaken c.args.least (omega arith) h0.ok.derived;
+      least = weaken c.args.least (omega arith) h0.ok.is;
     }
 
 pub expressions::expr-returns-then-precedence-least-clause-ok : goal.expressions::expr-returns-then-precedence-least-clause-ok
 expressions::expr-returns-then-precedence-least-clause-ok t c =
-    record { derived = c.chains.invariant.least; forward = c.chains.invariant.part.forward; within = c.chains.invariant.part.within; level = c.chains.invariant.part.level }
+    record { is = c.chains.invariant.least; ends = c.chains.invariant.part.ends; level = c.chains.invariant.part.level }
 
 pub expressions::expr-returns-in_err-whole-clause-none : goal.expressions::expr-returns-in_err-whole-clause-none
 expressions::expr-returns-in_err-whole-clause-none t c = passes _ c.from_residual.ensures.1 (refutes_form operand_form (refutes_first c.in_err-whole.ensures.none))
@@ -62,7 +62,7 @@ expressions::chain-loop-next-preserved t c =
     let t : IsToken (toks_of c.args.cut.now) c.loop-next.sign c.in-Some.field-0-0 c.in-Some.next = record { there = cc h0.token.there; next = omega (arith, h0.token.next, c.in-Some.next-is) } in
     record {
       ahead = ahead_more _ c.loop-next.invariant.ahead c.in_ok-push.ensures.ok (list_more (steps_form c.requires.low t) h1.only (omega (arith, c.precedence_at.ensures.value), refl));
-      joins = joins_more (AreSteps (toks_of c.args.cut.now) c.args.precedence) _ _ _ _ _ _ c.loop-next.invariant.joins c.in_ok-push.ensures.ok (λ k rest h. more_steps t (operator_at c.args.precedence t c.loop-next.invariant.next) h1.ok.derived h);
+      joins = joins_more (AreSteps (toks_of c.args.cut.now) c.args.precedence) _ _ _ _ _ _ c.loop-next.invariant.joins c.in_ok-push.ensures.ok (λ k rest h. more_steps t (operator_at c.args.precedence t c.loop-next.invariant.next) h1.ok.is h);
       next = omega (arith, c.precedence_at.ensures.value);
       forward = omega arith;
       level = level_more step_levels _ _ _ _ c.loop-next.invariant.level c.in_ok-push.ensures.ok (omega (arith, step_of_levels c.loop-next.sign c.in_ok-right.right, h1.ok.level));
@@ -74,8 +74,8 @@ expressions::chain-returns-then-precedence_at-precedence-clause-ok t c =
     let h1 = c.in_ok-right.ensures in
     let n = h0.token.next in
     let t : IsToken (toks_of c.args.cut.now) c.loop-next.sign c.in-Some.field-0-0 c.in-Some.next = record { there = cc h0.token.there; next = omega (arith, h0.token.next, c.in-Some.next-is) } in
-    ok_made (λ (e : Expr). Found (toks_of c.args.cut.now) (c.args.at + 1) (out-Expr e).to c.args.left (expr_levels e) (IsExpr (toks_of c.args.cut.now) c.args.precedence c.args.at (out-Expr e).to e)) _ c.chain.ensures.made (chain_found c.requires.low c.requires.first (joins_last (AreSteps (toks_of c.args.cut.now) c.args.precedence) _ _ _ _ _ _ c.loop-next.invariant.joins (c.exact.ensures ∙ c.in_ok-push.ensures.ok) (one_step t (operator_at c.args.precedence t c.loop-next.invariant.next) h1.ok.derived))
-    (omega arith) h1.ok.within (level_more step_levels _ _ _ _ c.loop-next.invariant.level (c.exact.ensures ∙ c.in_ok-push.ensures.ok) (omega (arith, step_of_levels c.loop-next.sign c.in_ok-right.right, h1.ok.level))))
+    ok_made (λ (e : Expr). Found (toks_of c.args.cut.now) (c.args.at + 1) (out-Expr e).to c.args.left (expr_levels e) (IsExpr (toks_of c.args.cut.now) c.args.precedence c.args.at (out-Expr e).to e)) _ c.chain.ensures.made (chain_found c.requires.low c.requires.first (joins_last (AreSteps (toks_of c.args.cut.now) c.args.precedence) _ _ _ _ _ _ c.loop-next.invariant.joins (c.exact.ensures ∙ c.in_ok-push.ensures.ok) (one_step t (operator_at c.args.precedence t c.loop-next.invariant.next) h1.ok.is))
+    (omega arith) h1.ok.ends.within (level_more step_levels _ _ _ _ c.loop-next.invariant.level (c.exact.ensures ∙ c.in_ok-push.ensures.ok) (omega (arith, step_of_levels c.loop-next.sign c.in_ok-right.right, h1.ok.level))))
 
 pub expressions::chain-returns-in_err-right-clause-none : goal.expressions::chain-returns-in_err-right-clause-none
 expressions::chain-returns-in_err-right-clause-none t c = passes _ c.from_residual.ensures.1 (refutes_first (ahead_refutes _ c.loop-next.invariant.ahead (refutes_form (steps_form c.requires.low c.in-Some.ensures.token) (refutes_first c.in_err-right.ensures.none))))
@@ -142,7 +142,7 @@ expressions::simple-returns-in-Some-leaf-clause-ok t c =
     let h1 = c.in-Some-leaf.ensures.leaf in
     let t : IsToken (toks_of c.args.cut.now) c.args.at c.in-Some.tok c.in-Some.to = record { there = cc (h0.token.there, c.in-Some.tok-is); next = omega (arith, h0.token.next, c.in-Some.to-is) } in
     let leaf = h1 (toks_of c.args.cut.now) c.args.at c.in-Some.to t in
-    record { derived = leaf.0; forward = omega (arith, t.next); within = omega (arith, h0.within, c.in-Some.to-is); level = omega (arith, leaf.1) }
+    record { is = leaf.0; ends = record { forward = omega (arith, t.next); within = omega (arith, h0.within, c.in-Some.to-is) }; level = omega (arith, leaf.1) }
 
 pub expressions::simple-returns-in_default-clause-none : goal.expressions::simple-returns-in_default-clause-none
 expressions::simple-returns-in_default-clause-none t c = record { token = c.refusal.ensures; nothing = λ known. simple_inside c.in_default.ensures.end }
@@ -186,7 +186,7 @@ expressions::exprs-loop-found-preserved t c =
     let h1 = c.in-Some.ensures in
     record {
       ahead = ahead_more _ c.loop-found.invariant.ahead c.in_ok-push.ensures.ok (list_more exprs_form h0.only h1.token);
-      joins = joins_more (AreExprs (toks_of c.args.cut.now)) _ _ _ _ _ _ c.loop-found.invariant.joins c.in_ok-push.ensures.ok (λ k rest h. more_exprs h0.ok.derived h1.token h);
+      joins = joins_more (AreExprs (toks_of c.args.cut.now)) _ _ _ _ _ _ c.loop-found.invariant.joins c.in_ok-push.ensures.ok (λ k rest h. more_exprs h0.ok.is h1.token h);
       forward = omega arith;
       level = level_more expr_levels _ _ _ _ c.loop-found.invariant.level c.in_ok-push.ensures.ok h0.ok.level;
     }
@@ -195,9 +195,8 @@ pub expressions::exprs-returns-in-None-clause-ok : goal.expressions::exprs-retur
 expressions::exprs-returns-in-None-clause-ok t c =
     let h0 = c.in_ok-one.ensures in
     record {
-      derived = joins_last (AreExprs (toks_of c.args.cut.now)) _ _ _ _ _ _ c.loop-found.invariant.joins (c.exact.ensures ∙ c.in_ok-push.ensures.ok) (one_expr h0.ok.derived);
-      forward = omega arith;
-      within = omega arith;
+      is = joins_last (AreExprs (toks_of c.args.cut.now)) _ _ _ _ _ _ c.loop-found.invariant.joins (c.exact.ensures ∙ c.in_ok-push.ensures.ok) (one_expr h0.ok.is);
+      ends = record { forward = omega arith; within = omega arith };
       level = level_more expr_levels _ _ _ _ c.loop-found.invariant.level (c.exact.ensures ∙ c.in_ok-push.ensures.ok) h0.ok.level;
     }
 
@@ -234,7 +233,7 @@ tables::fields-fields-preserved t c =
     let h1 = c.in-Some.ensures in
     record {
       ahead = ahead_more _ c.fields.invariant.ahead c.in_ok-push.ensures.ok (list_more (fields_form (not_at _ c.is_at.ensures c.if-is_at.false)) h0.only h1.some);
-      joins = joins_more (AreFields (toks_of c.args.cut.now)) _ _ _ _ _ _ c.fields.invariant.joins c.in_ok-push.ensures.ok (λ k rest h. more_fields h0.ok.derived h1.some h);
+      joins = joins_more (AreFields (toks_of c.args.cut.now)) _ _ _ _ _ _ c.fields.invariant.joins c.in_ok-push.ensures.ok (λ k rest h. more_fields h0.ok.is h1.some h);
       forward = omega arith;
       within = omega arith;
       level = level_more field_levels _ _ _ _ c.fields.invariant.level c.in_ok-push.ensures.ok h0.ok.level;
@@ -244,18 +243,16 @@ pub tables::fields-returns-in-None-clause-ok : goal.tables::fields-returns-in-No
 tables::fields-returns-in-None-clause-ok t c =
     let h0 = c.in_ok-one.ensures in
     record {
-      derived = joins_last (AreFields (toks_of c.args.cut.now)) _ _ _ _ _ _ c.fields.invariant.joins (c.exact-in-None.ensures ∙ c.in_ok-push.ensures.ok) (last_field h0.ok.derived);
-      forward = omega arith;
-      within = omega arith;
+      is = joins_last (AreFields (toks_of c.args.cut.now)) _ _ _ _ _ _ c.fields.invariant.joins (c.exact-in-None.ensures ∙ c.in_ok-push.ensures.ok) (last_field h0.ok.is);
+      ends = record { forward = omega arith; within = omega arith };
       level = level_more field_levels _ _ _ _ c.fields.invariant.level (c.exact-in-None.ensures ∙ c.in_ok-push.ensures.ok) h0.ok.level;
     }
 
 pub tables::fields-returns-then-is_at-clause-ok : goal.tables::fields-returns-then-is_at-clause-ok
 tables::fields-returns-then-is_at-clause-ok t c =
     record {
-      derived = joins_end (AreFields (toks_of c.args.cut.now)) _ _ _ _ c.fields.invariant.joins c.exact.ensures no_fields;
-      forward = omega arith;
-      within = omega arith;
+      is = joins_end (AreFields (toks_of c.args.cut.now)) _ _ _ _ c.fields.invariant.joins c.exact.ensures no_fields;
+      ends = record { forward = omega arith; within = omega arith };
       level = level_end field_levels _ _ _ c.fields.invariant.level c.exact.ensures;
     }
 
@@ -320,7 +317,7 @@ pub prefixes::prefix-returns-clause-none : goal.prefixes::prefix-returns-clause-
 prefixes::prefix-returns-clause-none t c = err_made (toks_of c.args.cut.now) (ReadPrefix (toks_of c.args.cut.now) c.args.left c.args.at) _ c.suffixed.ensures.memory
 
 pub prefixes::head-returns-clause-head : goal.prefixes::head-returns-clause-head
-prefixes::head-returns-clause-head t c = paren_head c.in_ok-expr.ensures.ok.derived
+prefixes::head-returns-clause-head t c = paren_head c.in_ok-expr.ensures.ok.is
 
 pub prefixes::head-returns-in-Some-clause-head : goal.prefixes::head-returns-in-Some-clause-head
 prefixes::head-returns-in-Some-clause-head t c = name_head c.in-Some.ensures.token
@@ -360,7 +357,7 @@ prefixes::suffixes-loop-found-preserved t c =
     let h0 = c.in_ok-one.ensures in
     record {
       ahead = ahead_more _ c.loop-found.invariant.ahead c.in_ok-push.ensures.ok (list_more suffixes_form h0.only (cc (c.begins_suffix.ensures, c.if-not-begins_suffix.false), refl));
-      joins = λ calls. joins_more (AreSuffixes (toks_of c.args.cut.now) calls) _ _ _ _ _ _ (c.loop-found.invariant.joins calls) c.in_ok-push.ensures.ok (λ k rest h. more_suffixes h0.ok.derived h);
+      joins = λ calls. joins_more (AreSuffixes (toks_of c.args.cut.now) calls) _ _ _ _ _ _ (c.loop-found.invariant.joins calls) c.in_ok-push.ensures.ok (λ k rest h. more_suffixes h0.ok.is h);
       forward = omega arith;
       level = level_more suffix_levels _ _ _ _ c.loop-found.invariant.level c.in_ok-push.ensures.ok h0.ok.level;
     }
@@ -369,9 +366,8 @@ pub prefixes::suffixes-returns-then-not-begins_suffix-clause-ok : goal.prefixes:
 prefixes::suffixes-returns-then-not-begins_suffix-clause-ok t c =
     let h0 = c.in_ok-one.ensures in
     record {
-      derived = joins_last (AreSuffixes (toks_of c.args.cut.now) c.in_ok-one.calls) _ _ _ _ _ _ (c.loop-found.invariant.joins c.in_ok-one.calls) (c.exact.ensures ∙ c.in_ok-push.ensures.ok) (one_suffix h0.ok.derived);
-      forward = omega arith;
-      within = omega arith;
+      is = joins_last (AreSuffixes (toks_of c.args.cut.now) c.in_ok-one.calls) _ _ _ _ _ _ (c.loop-found.invariant.joins c.in_ok-one.calls) (c.exact.ensures ∙ c.in_ok-push.ensures.ok) (one_suffix h0.ok.is);
+      ends = record { forward = omega arith; within = omega arith };
       level = level_more suffix_levels _ _ _ _ c.loop-found.invariant.level (c.exact.ensures ∙ c.in_ok-push.ensures.ok) h0.ok.level;
     }
 
@@ -498,7 +494,7 @@ blocks::block-loop-stats-preserved t c =
     let h0 = c.in_ok-one.ensures in
     record {
       ahead = ahead_more _ c.loop-stats.invariant.ahead c.in_ok-push.ensures.ok (λ r q. then_rest h0.only (stats_form (sym c.ends_block.ensures ∙ c.loop-stats-test.true) r q));
-      joins = joins_more (AreStats (toks_of c.args.cut.now)) _ _ _ _ _ _ c.loop-stats.invariant.joins c.in_ok-push.ensures.ok (λ k rest h. more_stats h0.ok.derived h);
+      joins = joins_more (AreStats (toks_of c.args.cut.now)) _ _ _ _ _ _ c.loop-stats.invariant.joins c.in_ok-push.ensures.ok (λ k rest h. more_stats h0.ok.is h);
       forward = omega arith;
       within = omega arith;
       level = level_more stat_levels _ _ _ _ c.loop-stats.invariant.level c.in_ok-push.ensures.ok h0.ok.level;
@@ -507,7 +503,7 @@ blocks::block-loop-stats-preserved t c =
 pub blocks::block-returns-then-is_at-clause-ok : goal.blocks::block-returns-then-is_at-clause-ok
 blocks::block-returns-then-is_at-clause-ok t c =
     let h0 = c.in_ok-last.ensures in
-    made_block _ _ _ (block_found (joins_last (AreStats (toks_of c.args.cut.now)) _ _ _ _ _ _ c.loop-stats.invariant.joins (c.exact.ensures ∙ c.in_ok-push-2.ensures.ok) (last_stat h0.ok.derived)) (omega arith) h0.ok.within
+    made_block _ _ _ (block_found (joins_last (AreStats (toks_of c.args.cut.now)) _ _ _ _ _ _ c.loop-stats.invariant.joins (c.exact.ensures ∙ c.in_ok-push-2.ensures.ok) (last_stat h0.ok.is)) (omega arith) h0.ok.ends.within
     (level_more stat_levels _ _ _ _ c.loop-stats.invariant.level (c.exact.ensures ∙ c.in_ok-push-2.ensures.ok) h0.ok.level))
 
 pub blocks::block-returns-clause-ok : goal.blocks::block-returns-clause-ok
@@ -649,7 +645,7 @@ statements::arms-loop-found-preserved t c =
     let h1 = c.in-Some.ensures in
     record {
       ahead = ahead_more _ c.loop-found.invariant.ahead c.in_ok-push.ensures.ok (list_more arms_form h0.only h1.token);
-      joins = joins_more (AreArms (toks_of c.args.cut.now)) _ _ _ _ _ _ c.loop-found.invariant.joins c.in_ok-push.ensures.ok (λ k rest h. more_arms h0.ok.derived h1.token h);
+      joins = joins_more (AreArms (toks_of c.args.cut.now)) _ _ _ _ _ _ c.loop-found.invariant.joins c.in_ok-push.ensures.ok (λ k rest h. more_arms h0.ok.is h1.token h);
       forward = omega arith;
       level = level_more arm_levels _ _ _ _ c.loop-found.invariant.level c.in_ok-push.ensures.ok h0.ok.level;
     }
@@ -658,9 +654,8 @@ pub statements::arms-returns-in-None-clause-ok : goal.statements::arms-returns-i
 statements::arms-returns-in-None-clause-ok t c =
     let h0 = c.in_ok-one.ensures in
     record {
-      derived = joins_last (AreArms (toks_of c.args.cut.now)) _ _ _ _ _ _ c.loop-found.invariant.joins (c.exact.ensures ∙ c.in_ok-push.ensures.ok) (one_arm h0.ok.derived);
-      forward = omega arith;
-      within = omega arith;
+      is = joins_last (AreArms (toks_of c.args.cut.now)) _ _ _ _ _ _ c.loop-found.invariant.joins (c.exact.ensures ∙ c.in_ok-push.ensures.ok) (one_arm h0.ok.is);
+      ends = record { forward = omega arith; within = omega arith };
       level = level_more arm_levels _ _ _ _ c.loop-found.invariant.level (c.exact.ensures ∙ c.in_ok-push.ensures.ok) h0.ok.level;
     }
 
@@ -693,7 +688,7 @@ statements::else_block-returns-clause-ok t c = else_found c.in-Some.ensures.toke
 
 pub statements::else_block-returns-in_default-clause-ok : goal.statements::else_block-returns-in_default-clause-ok
 statements::else_block-returns-in_default-clause-ok t c =
-    let r = c.requires in record { derived = no_else; forward = omega arith; within = omega arith; level = omega arith }
+    let r = c.requires in record { is = no_else; ends = record { forward = omega arith; within = omega arith }; level = omega arith }
 
 pub statements::else_block-returns-in_err-inner-clause-none : goal.statements::else_block-returns-in_err-inner-clause-none
 statements::else_block-returns-in_err-inner-clause-none t c = passes _ c.from_residual.ensures.1 (refutes_form (else_form c.in-Some.ensures.token) (refutes_first c.in_err-inner.ensures.none))
@@ -779,7 +774,7 @@ loops::for_step-returns-clause-ok t c = for_step_found c.in-Some.ensures.token c
 
 pub loops::for_step-returns-in_default-clause-ok : goal.loops::for_step-returns-in_default-clause-ok
 loops::for_step-returns-in_default-clause-ok t c =
-    let r = c.requires in record { derived = no_for_step; forward = omega arith; within = omega arith; level = omega arith }
+    let r = c.requires in record { is = no_for_step; ends = record { forward = omega arith; within = omega arith }; level = omega arith }
 
 pub loops::for_step-returns-in_err-step-clause-none : goal.loops::for_step-returns-in_err-step-clause-none
 loops::for_step-returns-in_err-step-clause-none t c = passes _ c.from_residual.ensures.1 (refutes_form (for_step_form c.in-Some.ensures.token) (refutes_first c.in_err-step.ensures.none))
@@ -811,7 +806,7 @@ assignments::targets-loop-found-preserved t c =
     let h1 = c.in_ok-one.ensures in
     record {
       ahead = ahead_more _ c.loop-found.invariant.ahead c.in_ok-push.ensures.ok (λ r q. then_rest h1.only (targets_form h0.token r q));
-      joins = joins_more (AreTargets (toks_of c.args.cut.now)) _ _ _ _ _ _ c.loop-found.invariant.joins c.in_ok-push.ensures.ok (λ k rest h. more_targets c.loop-found.invariant.one.derived h0.token h);
+      joins = joins_more (AreTargets (toks_of c.args.cut.now)) _ _ _ _ _ _ c.loop-found.invariant.joins c.in_ok-push.ensures.ok (λ k rest h. more_targets c.loop-found.invariant.one.is h0.token h);
       one = h1.ok;
       forward = omega arith;
       level = level_more expr_levels _ _ _ _ c.loop-found.invariant.level c.in_ok-push.ensures.ok c.loop-found.invariant.one.level;
@@ -820,9 +815,8 @@ assignments::targets-loop-found-preserved t c =
 pub assignments::targets-returns-in_default-clause-ok : goal.assignments::targets-returns-in_default-clause-ok
 assignments::targets-returns-in_default-clause-ok t c =
     record {
-      derived = joins_last (AreTargets (toks_of c.args.cut.now)) _ _ _ _ _ _ c.loop-found.invariant.joins (c.exact.ensures ∙ c.in_ok-push.ensures.ok) (one_target c.loop-found.invariant.one.derived);
-      forward = omega arith;
-      within = omega arith;
+      is = joins_last (AreTargets (toks_of c.args.cut.now)) _ _ _ _ _ _ c.loop-found.invariant.joins (c.exact.ensures ∙ c.in_ok-push.ensures.ok) (one_target c.loop-found.invariant.one.is);
+      ends = record { forward = omega arith; within = omega arith };
       level = level_more expr_levels _ _ _ _ c.loop-found.invariant.level (c.exact.ensures ∙ c.in_ok-push.ensures.ok) c.loop-found.invariant.one.level;
     }
 

@@ -23,17 +23,11 @@ use Rattle.luf_tree.specs.Level.{deepest, expr_levels, field_levels, suffix_leve
 use Rattle.luf_tree.specs.Grammar.{At, expression, statement, IsToken, AreNames, AreParams, IsAttribute, AreDeclared, IsPath, IsMethod, IsSemicolon, IsExpr, AreSteps, IsOperand, IsSimple, IsVariable, IsParen, IsHead, AreSuffixes, IsSuffix, IsArgs, AreExprs, IsTable, AreFields, IsField, IsFuncBody, IsBlock, AreStats, IsReturn, IsStat, AreTargets, IsArm, AreArms, IsElse, IsForStep}
 use Rattle.luf_parse.specs.inner.Exact.{Then, Enters}
 use Rattle.luf_parse.specs.inner.Follow.{NotAt, IsAssigned, NotAssigned, continues_prefix, EndsOperand, EndsExpr, EndsExprs, EndsBlock, EndsStat, EndsArms, EndsField}
-use Rattle.luf_parse.specs.inner.Reads.{begins_suffix}
+use Rattle.luf_parse.specs.inner.Reads.{Part, begins_suffix}
 use Rattle.luf_parse.specs.inner.Shapes.{IsShaped, lone_args}
 use Rattle.luf_parse.specs.declared.prefixes.PrefixExpr.{PrefixExpr}
 use Rattle.luf_parse.specs.declared.prefixes.Shape.{Shape}
 use Rattle.luf_parse.specs.declared.prefixes.Shape.TheVariants.{Variable, Call, Paren}
-
--- a part that is derived, behind which no part goes on, and which enters no more levels than are left
-pub record Part (Derived Ends : Type 0) (levels left : ℕ) : Type 0 where
-  pub is : Derived
-  pub ends : Ends
-  pub level : levels ≤ left
 
 -- lists of names
 

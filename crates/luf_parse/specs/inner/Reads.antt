@@ -6,13 +6,20 @@ use Rattle.luf_lex.specs.declared.token.Sign.{Sign}
 use Rattle.luf_lex.specs.declared.token.Sign.TheVariants as sign
 use Rattle.luf_parse.specs.inner.Follow.{sign_continues, continues_prefix}
 
--- A part that ends at a place was read: it is derived, it has the tokens up to that place, and it enters no
--- more than the levels that are left.
-pub record Found (toks : List Tok) (from to left levels : ℕ) (Derived : Type 0) : Type 0 where
-  pub derived : Derived
+-- a part that is derived, at whose end this holds, and which enters no more levels than are left
+pub record Part (Derived Ends : Type 0) (levels left : ℕ) : Type 0 where
+  pub is : Derived
+  pub ends : Ends
+  pub level : levels ≤ left
+
+-- a part ends at a place or behind it, among the tokens
+pub record EndsWithin (toks : List Tok) (from to : ℕ) : Type 0 where
   pub forward : from ≤ to
   pub within : to ≤ length toks
-  pub level : levels ≤ left
+
+-- a part that ends at a place was read
+abbrev pub Found : List Tok → ℕ → ℕ → ℕ → ℕ → Type 0 → Type 0
+Found toks from to left levels Derived = Part Derived (EndsWithin toks from to) levels left
 
 abbrev pub sign_begins_suffix : Sign → Bool
 sign_begins_suffix sign.LeftParen = true

@@ -5,7 +5,7 @@ use Rattle.luf_parse.proofs.blocks.semicolon.Goals as goal
 pub returns-in-Some-clause-found : goal.returns-in-Some-clause-found
 returns-in-Some-clause-found c =
     let h0 = c.in-Some.ensures in
-    record { derived = a_semicolon h0.token; forward = omega arith; within = omega arith; level = omega arith }
+    record { is = a_semicolon h0.token; ends = record { forward = omega arith; within = omega arith }; level = omega arith }
 
 pub returns-in-None-clause-found : goal.returns-in-None-clause-found
-returns-in-None-clause-found c = record { derived = no_semicolon; forward = omega arith; within = omega arith; level = omega arith }
+returns-in-None-clause-found c = record { is = no_semicolon; ends = record { forward = omega arith; within = omega arith }; level = omega arith }

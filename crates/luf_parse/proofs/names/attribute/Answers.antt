@@ -9,11 +9,11 @@ returns-in_ok-to-in-Some-clause-ok c =
     let h0 = c.in-Some.ensures in
     let h1 = c.in_ok-close-in-Some.ensures in
     let h2 = c.in_ok-to-in-Some.ensures in
-    record { derived = an_attribute h0.token h1.token h2.token; forward = omega arith; within = omega arith; level = omega arith }
+    record { is = an_attribute h0.token h1.token h2.token; ends = record { forward = omega arith; within = omega arith }; level = omega arith }
 
 pub returns-in-None-clause-ok : goal.returns-in-None-clause-ok
 returns-in-None-clause-ok c =
-    record { derived = no_attribute; forward = omega arith; within = omega arith; level = omega arith }
+    record { is = no_attribute; ends = record { forward = omega arith; within = omega arith }; level = omega arith }
 
 pub returns-in_err-close-in-Some-clause-none : goal.returns-in_err-close-in-Some-clause-none
 returns-in_err-close-in-Some-clause-none c = passes _ c.from_residual.ensures.1 (refutes_form (attribute_form c.in-Some.ensures.token) (refutes_first c.in_err-close-in-Some.ensures.none))

@@ -16,7 +16,7 @@ loop-found-preserved c =
     let h2 = c.in-Some.ensures in
     record {
       ahead = ahead_more _ c.loop-found.invariant.ahead c.in_ok-push.ensures.ok (list_more declared_form (alone_next c.in_ok-after.ensures.only c.in_ok-attribute.ensures.only) c.in-Some.ensures.token);
-      joins = joins_more (AreDeclared (toks_of c.args.cut.now)) _ _ _ _ _ _ c.loop-found.invariant.joins c.in_ok-push.ensures.ok (λ k rest h. more_declared h0.token h1.ok.derived h2.token h);
+      joins = joins_more (AreDeclared (toks_of c.args.cut.now)) _ _ _ _ _ _ c.loop-found.invariant.joins c.in_ok-push.ensures.ok (λ k rest h. more_declared h0.token h1.ok.is h2.token h);
       forward = omega arith;
     }
 
@@ -31,7 +31,7 @@ pub returns-in-None-clause-ok : goal.returns-in-None-clause-ok
 returns-in-None-clause-ok c =
     let h0 = c.in_ok-after.ensures in
     let h1 = c.in_ok-attribute.ensures in
-    record { derived = joins_last (AreDeclared (toks_of c.args.cut.now)) _ _ _ _ _ _ c.loop-found.invariant.joins (c.exact.ensures ∙ c.in_ok-push.ensures.ok) (one_declared h0.token h1.ok.derived); forward = omega arith; within = omega arith; level = omega arith }
+    record { is = joins_last (AreDeclared (toks_of c.args.cut.now)) _ _ _ _ _ _ c.loop-found.invariant.joins (c.exact.ensures ∙ c.in_ok-push.ensures.ok) (one_declared h0.token h1.ok.is); ends = record { forward = omega arith; within = omega arith }; level = omega arith }
 
 pub returns-in_err-after-clause-none : goal.returns-in_err-after-clause-none
 returns-in_err-after-clause-none c = passes _ c.from_residual.ensures.1 (ahead_refutes _ c.loop-found.invariant.ahead (refutes_form declared_form (refutes_first (refutes_first c.in_err-after.ensures.none))))

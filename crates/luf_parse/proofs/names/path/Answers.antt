@@ -28,7 +28,7 @@ loop-found-smaller c =
 pub returns-in-None-clause-ok : goal.returns-in-None-clause-ok
 returns-in-None-clause-ok c =
     let h0 = c.in_ok-to.ensures in
-    record { derived = joins_last (IsPath (toks_of c.args.cut.now)) _ _ _ _ _ _ c.loop-found.invariant.joins (c.exact.ensures ∙ c.in_ok-push.ensures.ok) (path_end h0.token); forward = omega arith; within = omega arith; level = omega arith }
+    record { is = joins_last (IsPath (toks_of c.args.cut.now)) _ _ _ _ _ _ c.loop-found.invariant.joins (c.exact.ensures ∙ c.in_ok-push.ensures.ok) (path_end h0.token); ends = record { forward = omega arith; within = omega arith }; level = omega arith }
 
 pub returns-in_err-to-clause-none : goal.returns-in_err-to-clause-none
 returns-in_err-to-clause-none c = passes _ c.from_residual.ensures.1 (ahead_refutes _ c.loop-found.invariant.ahead (refutes_form path_form (refutes_first c.in_err-to.ensures.none)))

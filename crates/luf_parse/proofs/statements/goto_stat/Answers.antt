@@ -7,4 +7,4 @@ pub returns-clause-ok : goal.returns-clause-ok
 returns-clause-ok c =
     let h0 = c.in_ok-to.ensures in
     let h = c.requires in
-    record { derived = goto_stat c.requires h0.token; forward = omega arith; within = omega arith; level = omega (arith, goto_levels c.args.at c.in_ok-to.to c.args.name) }
+    record { is = goto_stat c.requires h0.token; ends = record { forward = omega arith; within = omega arith }; level = omega (arith, goto_levels c.args.at c.in_ok-to.to c.args.name) }

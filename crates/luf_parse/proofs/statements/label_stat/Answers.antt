@@ -8,4 +8,4 @@ returns-clause-ok c =
     let h0 = c.in_ok-close.ensures in
     let h1 = c.in_ok-to.ensures in
     let h = c.requires in
-    record { derived = label_stat c.requires h0.token h1.token; forward = omega arith; within = omega arith; level = omega (arith, label_levels c.args.at c.in_ok-to.to c.args.name) }
+    record { is = label_stat c.requires h0.token h1.token; ends = record { forward = omega arith; within = omega arith }; level = omega (arith, label_levels c.args.at c.in_ok-to.to c.args.name) }
