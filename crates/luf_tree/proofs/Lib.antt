@@ -1,7 +1,9 @@
 pub mod LevelLemmas
 pub mod SyntaxEquations
+pub mod SyntaxMapLaws
 pub mod SyntaxKept
 pub mod LevelEquations
+pub mod LevelMap
 pub mod LevelReads
 pub mod LevelExamples
 pub mod TokenLaws

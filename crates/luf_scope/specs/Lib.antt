@@ -1,0 +1,5 @@
+pub mod Fault
+pub mod Local
+pub mod Jump
+pub mod Occurrences
+pub mod Role
