@@ -1,13 +1,13 @@
 -- The table of answers, read by its rows.
-use Rattle.std.proofs.Common.{◌≡◌, ◌⊎◌, inl, inr, ℕ, ◌<◌, ◌≤◌, List, [], ◌++◌, length, codes, Option, Some, None, Err, refl, sym, subst, arith, length-append}
+use Rattle.std.proofs.Common.{◌≡◌, ◌≢◌, ◌⊎◌, inl, inr, ℕ, ◌+◌, ◌<◌, ◌≤◌, List, [], ◌++◌, length, codes, Option, Some, None, Err, refl, sym, ap, ◌∙◌, subst, arith, length-append}
 use Rattle.luf_io.specs.Source.{Taken}
 use Rattle.luf_io.specs.Read.{PullsWithin}
 use Rattle.luf_io.specs.declared.read.ReadErr.{ReadErr}
 use Rattle.luf_io.specs.declared.read.ReadErr.TheVariants as read
-use Rattle.luf_work.specs.Minified.{IsMinified}
-use Rattle.luf_work.specs.Refusals.{IsRefused}
+use Rattle.luf_work.specs.Limits.{source_limit, text_limit}
+use Rattle.luf_work.specs.Minify.{IsMinified, IsMinifyRefusal}
 use Rattle.luf_work.specs.declared.refusal.Refusal.{Refusal}
-use Rattle.luf_work.specs.declared.refusal.Refusal.TheVariants.{TooLarge}
+use Rattle.luf_work.specs.declared.refusal.Refusal.TheVariants.{TooLarge, Memory}
 use Rattle.luafmt.specs.Line.{line_of, refusal_line}
 use Rattle.luafmt.specs.Outcome.{Outcome, IsMinify, Gives, usage, refused, done, AreContents, IsOutcome, RanThrough}
 use Rattle.luafmt.specs.declared.status.Status.{Status}
@@ -38,11 +38,14 @@ pub usage_of : (words : List (List ℕ)) (contents : List ℕ) (w : Outcome) →
 usage_of words contents w is other = subst (λ (v : Outcome). Gives words contents v) (sym is) (usage words contents other)
 
 -- the row of a source that is refused, with its line
-pub refused_of : (words : List (List ℕ)) (contents : List ℕ) (w : Outcome) (refusal : Refusal) → IsMinify words → IsRefused contents refusal → ((line : List ℕ) × (refusal_line refusal ≡ Some line) × (w ≡ record { status = Refused; out = []; errs = line_of line })) → Gives words contents w
-refused_of words contents w refusal m cause h = subst (λ (v : Outcome). Gives words contents v) (sym h.2) (refused words contents h.0 refusal m cause h.1)
+pub refused_of : (words : List (List ℕ)) (contents : List ℕ) (w : Outcome) (refusal : Refusal) → IsMinify words → (refusal ≢ Memory → IsMinifyRefusal contents refusal) → ((line : List ℕ) × (refusal_line refusal ≡ Some line) × (w ≡ record { status = Refused; out = []; errs = line_of line })) → Gives words contents w
+refused_of words contents w refusal m cause h = subst (λ (v : Outcome). Gives words contents v) (sym h.2) (refused words contents h.0 refusal m (cause other) h.1)
+  where
+    other : refusal ≡ Memory → ⊥
+    other e = let none : None ≡ Some h.0 = ap refusal_line (sym e) ∙ h.1 in cc
 
 -- the row of an accepted source, whose text was put into a buffer that was empty
-pub done_of : (words : List (List ℕ)) (contents out text : List ℕ) → IsMinify words → length contents ≤ 4194304 → IsMinified contents text → length text ≤ 4194304 → out ≡ [] ++ text → Gives words contents (record { status = Done; out = out; errs = [] })
+pub done_of : (words : List (List ℕ)) (contents out text : List ℕ) → IsMinify words → length contents ≤ source_limit → IsMinified contents text → length text ≤ text_limit → out ≡ [] ++ text → Gives words contents (record { status = Done; out = out; errs = [] })
 done_of words contents out text m within minified fits is = subst (λ (t : List ℕ). Gives words contents (record { status = Done; out = t; errs = [] })) (sym is) (done words contents text m within minified fits)
 
 -- every input has contents: those that it tells, or any
@@ -51,7 +54,7 @@ contents_of None = ([], λ told e. cc)
 contents_of (Some bytes) = (bytes, λ told e. cc)
 
 -- where more was pulled than a source may have, the contents have more too
-pub contents_pulled : (left : Option (List ℕ)) (pulled : List ℕ) (after : Option (List ℕ)) → Taken left pulled after → 4194304 < length pulled → (contents : List ℕ) × AreContents left contents × (4194304 < length contents)
+pub contents_pulled : (left : Option (List ℕ)) (pulled : List ℕ) (after : Option (List ℕ)) → Taken left pulled after → source_limit < length pulled → (contents : List ℕ) × AreContents left contents × (source_limit < length contents)
 contents_pulled left pulled None taken large = (pulled, λ told e. cc, large)
 contents_pulled left pulled (Some rest) taken large = (pulled ++ rest, λ told e. cc, simp length-append (omega arith))
 
@@ -62,8 +65,8 @@ usage_outcome words left w is other =
     record { contents = some.0; told = some.1; gives = usage_of words some.0 w is other }
 
 -- a read that was given up
-pub too_large_outcome : (words : List (List ℕ)) (left after : Option (List ℕ)) (pulled : List ℕ) (e : ReadErr) (w : Outcome) → ((line : List ℕ) × (refusal_line TooLarge ≡ Some line) × (w ≡ record { status = Refused; out = []; errs = line_of line })) → e ≡ read.TooLarge → IsMinify words → Taken left pulled after → PullsWithin {T = Unit {0}} (Err e) 4194304 (length pulled) → IsOutcome words left w
+pub too_large_outcome : (words : List (List ℕ)) (left after : Option (List ℕ)) (pulled : List ℕ) (e : ReadErr) (w : Outcome) → ((line : List ℕ) × (refusal_line TooLarge ≡ Some line) × (w ≡ record { status = Refused; out = []; errs = line_of line })) → e ≡ read.TooLarge → IsMinify words → Taken left pulled after → PullsWithin {T = Unit {0}} (Err e) source_limit (length pulled) → IsOutcome words left w
 too_large_outcome words left after pulled e w is word m taken limit =
-    let over : length pulled ≡ 4194305 = subst (λ (r : ReadErr). PullsWithin {T = Unit {0}} (Err r) 4194304 (length pulled)) word limit in
+    let over : length pulled ≡ source_limit + 1 = subst (λ (r : ReadErr). PullsWithin {T = Unit {0}} (Err r) source_limit (length pulled)) word limit in
     let some = contents_pulled left pulled after taken (omega arith) in
-    record { contents = some.0; told = some.1; gives = refused_of words some.0 w TooLarge m some.2 is }
+    record { contents = some.0; told = some.1; gives = refused_of words some.0 w TooLarge m (λ other. some.2) is }

@@ -1,8 +1,8 @@
 -- What a run comes to, by its words and the contents of its input. Our own rule.
 use Rattle.std.specs.Prelude.{◌≡◌, ℕ, ◌≤◌, List, [], ◌∷◌, length, codes, Option, Some}
 use Rattle.std.specs.Option.{ForSome}
-use Rattle.luf_work.specs.Minified.{IsMinified}
-use Rattle.luf_work.specs.Refusals.{IsRefused}
+use Rattle.luf_work.specs.Limits.{source_limit, text_limit}
+use Rattle.luf_work.specs.Minify.{IsMinified, IsMinifyRefusal}
 use Rattle.luf_work.specs.declared.refusal.Refusal.{Refusal}
 use Rattle.luafmt.specs.Line.{line_of, refusal_line}
 use Rattle.luafmt.specs.declared.status.Status.{Status}
@@ -23,9 +23,9 @@ IsMinify words = words ≡ codes "minify" ∷ []
 pub data Gives : List (List ℕ) → List ℕ → Outcome → Type 0 where
   usage : (words : List (List ℕ)) (contents : List ℕ) → (IsMinify words → ⊥)
       → Gives words contents (record { status = Usage; out = []; errs = line_of (codes "luafmt: Usage") })
-  refused : (words : List (List ℕ)) (contents line : List ℕ) (refusal : Refusal) → IsMinify words → IsRefused contents refusal → refusal_line refusal ≡ Some line
+  refused : (words : List (List ℕ)) (contents line : List ℕ) (refusal : Refusal) → IsMinify words → IsMinifyRefusal contents refusal → refusal_line refusal ≡ Some line
       → Gives words contents (record { status = Refused; out = []; errs = line_of line })
-  done : (words : List (List ℕ)) (contents text : List ℕ) → IsMinify words → length contents ≤ 4194304 → IsMinified contents text → length text ≤ 4194304
+  done : (words : List (List ℕ)) (contents text : List ℕ) → IsMinify words → length contents ≤ source_limit → IsMinified contents text → length text ≤ text_limit
       → Gives words contents (record { status = Done; out = text; errs = [] })
 
 -- the contents of an input: those that it tells, where it tells any

@@ -1,7 +1,7 @@
 //! What a run is to write, before any of it is written.
 ghost use Rattle.std.specs.Prelude.{◌≡◌, ◌↔◌, ℕ, List, [], map, string_bytes, Some, IfOk, OnOk, OnErr, IsErrOf, IsTrue};
 ghost use Rattle.luf_io.specs.Count.{Rose};
-ghost use Rattle.luf_work.specs.Minified.{IsAccepted, SameTokens};
+ghost use Rattle.luf_work.specs.Minify.{IsMinifyAccepted, SameTokens};
 ghost use Rattle.std.specs.Cow.{cow_str_bytes};
 ghost use Rattle.luafmt.specs.Line.{line_of, refusal_line as spec_refusal_line};
 ghost use Rattle.luafmt.specs.Outcome.{Outcome, IsMinify, Gives, AreContents, IsOutcome};
@@ -10,13 +10,10 @@ use crate::line::refusal_line;
 use crate::status::Status;
 use luf_io::{ReadErr, Source, read_all};
 use luf_memory::Memory;
-use luf_work::{Refusal, minify_bytes};
+use luf_work::{Refusal, SOURCE_LIMIT, minify_bytes};
 use std::alloc::Global;
 use std::borrow::CowStr;
 use std::marker::Model;
-
-// The most bytes that a source may have.
-const MOST: usize = 4194304;
 
 // The status that a run is to have, and what is to go to `out` and to `errs`.
 #[derive(Drop)]
@@ -62,7 +59,7 @@ pub(crate) fn prepare<I: Source>(
     ensures same_tokens { IfOk result (λ a. a.status ≡ Status.Done → (contents : List ℕ)
         × AreContents (I.left input.old) contents × SameTokens contents a.out) }
     ensures accepted { IfOk result (λ a. (contents : List ℕ) → I.left input.old ≡ Some contents
-        → IsAccepted contents → IsMinify (map string_bytes words.now) → a.status ≡ Status.Done) }
+        → IsMinifyAccepted contents → IsMinify (map string_bytes words.now) → a.status ≡ Status.Done) }
     ensures calm { OnOk result (I.faults input.new ≡ I.faults input.old) }
 
     // Where the words are not `minify` nothing is read, and so nothing fails.
@@ -76,7 +73,7 @@ pub(crate) fn prepare<I: Source>(
         return Ok(only_line(alloc, Status::Usage, CowStr::Borrowed("luafmt: Usage\n")));
     }
     let mut source = Vec::new(alloc);
-    match read_all(alloc, input, MOST, &mut source) {
+    match read_all(alloc, input, SOURCE_LIMIT, &mut source) {
         Ok(()) => Ok(minified(alloc, &source)?),
         Err(ReadErr::TooLarge) => Ok(refused(alloc, Refusal::TooLarge)?),
         Err(ReadErr::Fault) => Err(Halt::ReadFault),
@@ -98,7 +95,7 @@ fn minified(alloc: Global, source: &[u8]) -> Result<Answer, Memory>
     ensures gives { IfOk result (λ a.
         (words : List (List ℕ)) → IsMinify words → Gives words source.now a) }
     ensures same_tokens { IfOk result (λ a. a.status ≡ Status.Done → SameTokens source.now a.out) }
-    ensures accepted { IfOk result (λ a. IsAccepted source.now → a.status ≡ Status.Done) }
+    ensures accepted { IfOk result (λ a. IsMinifyAccepted source.now → a.status ≡ Status.Done) }
 {
     let mut out = Vec::new(alloc);
     match minify_bytes(alloc, source, &mut out) {

@@ -2,7 +2,7 @@
 ghost use Rattle.std.specs.Prelude.{◌≡◌, ◌≢◌, ◌⊎◌, ℕ, List, take, map, string_bytes, Some, OnOk, OnErr};
 ghost use Rattle.luf_io.specs.Count.{Rose};
 ghost use Rattle.luf_io.specs.Sink.{Appends};
-ghost use Rattle.luf_work.specs.Minified.{IsAccepted, SameTokens};
+ghost use Rattle.luf_work.specs.Minify.{IsMinifyAccepted, SameTokens};
 ghost use Rattle.luafmt.specs.Outcome.{Outcome, IsMinify, AreContents, IsOutcome, RanThrough};
 
 use crate::answer::{Answer, Halt, prepare};
@@ -63,7 +63,7 @@ pub fn run<F: Files, I: Source, O: Sink, E: Sink>(
 
     // Where all goes well, an accepted source is minified.
     ensures complete { (contents : List ℕ) → I.left input.old ≡ Some contents
-        → IsAccepted contents → IsMinify (map string_bytes words.now)
+        → IsMinifyAccepted contents → IsMinify (map string_bytes words.now)
         → ¬ Rose (I.faults input.old) (I.faults input.new)
         → ¬ Rose (O.faults out.old) (O.faults out.new)
         → ¬ Rose (E.faults errs.old) (E.faults errs.new)

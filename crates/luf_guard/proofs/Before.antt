@@ -2,8 +2,10 @@
 use Rattle.std.proofs.Common.{◌≡◌, ℕ, ◌<◌, true, false, eqb, List, [], ◌∷◌, ◌++◌, length, drop, refl, sym, ap, ◌∙◌, subst, arith}
 use Rattle.std.specs.List.{prefix_len}
 use Rattle.std.proofs.lemmas.Bool.{false_from_ne_true, false≢true}
-use Rattle.luf_lex.specs.Byte.{is_letter, is_word_byte, begins}
-use Rattle.luf_lex.specs.Spelling.{Spells, opens_long}
+use Rattle.luf_byte.specs.Class.{is_letter, is_word_byte}
+use Rattle.luf_byte.specs.Front.{begins}
+use Rattle.luf_lex.specs.Spelling.{Spells}
+use Rattle.luf_str.specs.LongEnd.{opens_long}
 use Rattle.luf_lex.specs.First.{IsFirst}
 use Rattle.luf_lex.specs.declared.token.Tok.{Tok}
 use Rattle.luf_lex.specs.declared.token.Tok.TheVariants.{Name, Number, Short, Long, Word, Sign}
@@ -13,7 +15,7 @@ use Rattle.luf_lex.specs.declared.token.Kind.TheVariants.{Token}
 use Rattle.luf_lex.proofs.RunLemmas.{begins_weaker}
 use Rattle.luf_lex.proofs.PlainLemmas.{keyword_letter, letter_is_word, word_spelled}
 use Rattle.luf_guard.specs.Space.{StandApart}
-use Rattle.luf_guard.specs.Joins.{goes_on}
+use Rattle.luf_guard.specs.inner.Joins.{goes_on}
 use Rattle.luf_guard.proofs.Words.{begins_some, begins_front, run_before, letters_before, word_ends}
 use Rattle.luf_guard.proofs.Numerals.{numeral_some, numeral_before, numeral_ends}
 use Rattle.luf_guard.proofs.Strings.{short_some, short_before, long_some, long_before}

@@ -3,11 +3,12 @@ use Rattle.std.proofs.Common.{◌≡◌, ℕ, ◌<◌, ◌⊎◌, ◌↔◌, inl
 use Rattle.std.specs.Prelude.{IsTrue}
 use Rattle.std.proofs.lemmas.Bool.{and_left, and_parts, or_cases, or_from, cond-true, cond-false, eqb-true, false≢true}
 use Rattle.std.proofs.lemmas.Bool.Decides.{nat_tests}
-use Rattle.luf_num.specs.Digit.{is_digit}
+use Rattle.luf_byte.specs.Class.{is_digit, is_letter, is_word_byte, is_blank}
 use Rattle.luf_str.specs.Bytes.{is_quote}
-use Rattle.luf_lex.specs.Byte.{is_letter, is_word_byte, is_blank, begins}
+use Rattle.luf_byte.specs.Front.{begins}
 use Rattle.luf_lex.specs.Sign.{sign_spelling}
-use Rattle.luf_lex.specs.Spelling.{Spells, opens_long}
+use Rattle.luf_lex.specs.Spelling.{Spells}
+use Rattle.luf_str.specs.LongEnd.{opens_long}
 use Rattle.luf_lex.specs.First.{IsFirst, begins_numeral}
 use Rattle.luf_lex.specs.declared.token.Tok.{Tok}
 use Rattle.luf_lex.specs.declared.token.Tok.TheVariants.{Name, Number, Short, Long, Word}
@@ -16,9 +17,9 @@ use Rattle.luf_lex.specs.declared.token.Sign.{Sign}
 use Rattle.luf_lex.specs.declared.token.Sign.TheVariants.{Plus, LeftBracket}
 use Rattle.luf_lex.specs.declared.token.Kind.TheVariants.{Token}
 use Rattle.luf_lex.proofs.PlainLemmas.{keyword_letter, sign_no_blank}
-use Rattle.luf_lex.proofs.BracketLemmas.{long_opens}
-use Rattle.luf_guard.specs.Space.{IsSpelling, StandApart, NeedSpace}
-use Rattle.luf_guard.specs.Joins.{goes_on, sign_goes_on, sign_joins, joins, is_needed}
+use Rattle.luf_str.proofs.BracketLaws.{long_opens}
+use Rattle.luf_guard.specs.Space.{IsTokenSpelling, StandApart, NeedSpace}
+use Rattle.luf_guard.specs.inner.Joins.{goes_on, sign_goes_on, sign_joins, joins, is_needed}
 use Rattle.luf_guard.proofs.Words.{begins_front}
 use Rattle.luf_guard.proofs.Numerals.{form_front}
 use Rattle.luf_guard.proofs.Strings.{short_some, short_quote, long_some}
@@ -170,7 +171,7 @@ needed_is t a (c ∷ b) h = joins_is t a c h
 
 -- ---- what the code decides
 
-pub needed_exact : (a b : List ℕ) (v : Bool) → IsSpelling a → IsSpelling b → v ≡ is_needed a b → IsTrue v ↔ NeedSpace a b
+pub needed_exact : (a b : List ℕ) (v : Bool) → IsTokenSpelling a → IsTokenSpelling b → v ≡ is_needed a b → IsTrue v ↔ NeedSpace a b
 needed_exact a b v (t, h) (u, g) e = (
   λ more apart. let first = apart_first a b apart in token_ends t first.0 a b h (sym (needed_is t a b h) ∙ sym e ∙ more) first.1,
   λ need. by_value v (λ none. need (stops_apart t u a b h g (sym (needed_is t a b h) ∙ sym e ∙ none))),
@@ -180,5 +181,5 @@ needed_exact a b v (t, h) (u, g) e = (
     by_value true other = refl
     by_value false other = absurd (other refl)
 
-pub needed_apart : (a b : List ℕ) (v : Bool) → IsSpelling a → IsSpelling b → v ≡ is_needed a b → v ≡ false → StandApart a b
+pub needed_apart : (a b : List ℕ) (v : Bool) → IsTokenSpelling a → IsTokenSpelling b → v ≡ is_needed a b → v ≡ false → StandApart a b
 needed_apart a b v (t, h) (u, g) e none = stops_apart t u a b h g (sym (needed_is t a b h) ∙ sym e ∙ none)

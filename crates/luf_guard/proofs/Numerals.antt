@@ -4,19 +4,20 @@ use Rattle.std.specs.List.{list_all}
 use Rattle.std.proofs.Math.Seq.{take-append_seam}
 use Rattle.std.proofs.lemmas.Bool.{and_left, and_right, and_parts, or_left, or_right, or_parts, or_from, or_cases, eqb-true, cond-true, cond-false, false_from_ne_true, false≢true}
 use Rattle.std.proofs.lemmas.Bool.Decides.{nat_tests}
-use Rattle.luf_num.specs.Digit.{is_digit, is_hex_digit}
+use Rattle.luf_byte.specs.Class.{is_digit, is_hex_digit, is_letter, is_word_byte}
 use Rattle.luf_num.specs.Numeral.{IsDigits, is_decimal_mark, is_binary_mark, IsExponent, HasFloatForm, IsDecimal, IsHexRest, IsHexPrefix, HasNumeralForm}
 use Rattle.luf_num.specs.declared.Number.{Number}
 use Rattle.luf_num.specs.declared.Number.TheVariants.{Int, Float}
 use Rattle.luf_num.proofs.Forms.{is_no_x, no_x_in_decimal, list_all_parts}
 use Rattle.luf_str.specs.Bytes.{is_quote}
-use Rattle.luf_lex.specs.Byte.{is_letter, is_word_byte, begins}
-use Rattle.luf_lex.specs.First.{IsFirst, group_of, begins_numeral, begins_hexadecimal, numeral_tail, numeral_length, Numeric}
+use Rattle.luf_byte.specs.Front.{begins}
+use Rattle.luf_lex.specs.First.{IsFirst, group_of, begins_numeral, begins_hexadecimal, numeral_tail, numeral_length}
+use Rattle.luf_lex.specs.declared.group.Group.TheVariants.{Numeric}
 use Rattle.luf_lex.specs.declared.token.Tok.TheVariants.{Number as NumberTok}
 use Rattle.luf_lex.specs.declared.token.Kind.{Kind}
 use Rattle.luf_lex.specs.declared.token.Kind.TheVariants.{Token}
 use Rattle.luf_lex.proofs.NumeralLemmas.{numeral_first}
-use Rattle.luf_guard.specs.Joins.{goes_word}
+use Rattle.luf_guard.specs.inner.Joins.{goes_word}
 use Rattle.luf_guard.proofs.Words.{group_is}
 
 -- ---- where the scan goes on

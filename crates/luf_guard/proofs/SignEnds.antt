@@ -1,19 +1,20 @@
 -- Signs before what makes a longer piece of them.
 use Rattle.std.proofs.Common.{◌≡◌, ℕ, ◌+◌, ◌<◌, ◌≤◌, ◌⊎◌, inl, inr, true, eqb, List, [], ◌∷◌, ◌++◌, length, take, refl, sym, ap, ◌∙◌, subst, arith}
 use Rattle.std.proofs.lemmas.Bool.{or_cases, or_left, or_right, eqb-true, false≢true}
-use Rattle.luf_num.specs.Digit.{is_digit}
+use Rattle.luf_byte.specs.Class.{is_digit, is_letter}
 use Rattle.luf_num.specs.Numeral.{is_decimal_mark}
-use Rattle.luf_lex.specs.Byte.{is_letter, begins}
+use Rattle.luf_byte.specs.Front.{begins}
 use Rattle.luf_lex.specs.Sign.{sign_spelling}
 use Rattle.luf_lex.specs.Spelling.{Spells}
-use Rattle.luf_lex.specs.First.{IsFirst, is_tried, group_of, numeral_tail, Numeric, Other}
+use Rattle.luf_lex.specs.First.{IsFirst, is_tried, group_of, numeral_tail}
+use Rattle.luf_lex.specs.declared.group.Group.TheVariants.{Numeric, Other}
 use Rattle.luf_lex.specs.declared.token.Tok.TheVariants as tok
 use Rattle.luf_lex.specs.declared.token.Sign.{Sign}
 use Rattle.luf_lex.specs.declared.token.Sign.TheVariants.{Minus, Slash, Tilde, ShiftLeft, ShiftRight, SlashSlash, Equal, NotEqual, LessEqual, GreaterEqual, Less, Greater, Assign, LeftBracket, DoubleColon, Colon, Dot, DotDot, Dots}
 use Rattle.luf_lex.specs.declared.token.Kind.{Kind}
 use Rattle.luf_lex.specs.declared.token.Kind.TheVariants.{Token, Comment}
 use Rattle.luf_lex.proofs.LoneKind.{commented_kind, bracketed_kind}
-use Rattle.luf_guard.specs.Joins.{goes_word, sign_goes_on}
+use Rattle.luf_guard.specs.inner.Joins.{goes_word, sign_goes_on}
 use Rattle.luf_guard.proofs.Numerals.{numeral_group, tail_some}
 use Rattle.luf_guard.proofs.Strings.{long_some}
 

@@ -3,18 +3,18 @@ use Rattle.std.proofs.Common.{◌≡◌, ℕ, ◌<◌, ◌≤◌, Bool, true, fa
 use Rattle.std.proofs.Math.Seq.{take-append_seam}
 use Rattle.std.proofs.lemmas.Bool.{and_from, cond-true, cond-false, or_parts, lt-ltb, false≢true}
 use Rattle.std.proofs.lemmas.Bool.Decides.{nat_tests}
-use Rattle.luf_num.specs.Digit.{is_digit}
-use Rattle.luf_str.specs.Bytes.{is_line_byte}
-use Rattle.luf_lex.specs.Byte.{is_letter, is_blank, begins}
-use Rattle.luf_lex.specs.Sign.{sign_spelling, Begins}
-use Rattle.luf_lex.specs.Spelling.{opens_long}
-use Rattle.luf_lex.specs.First.{IsFirst, group_of, Other}
+use Rattle.luf_byte.specs.Class.{is_digit, is_line_byte, is_letter, is_blank}
+use Rattle.luf_byte.specs.Front.{begins}
+use Rattle.luf_lex.specs.Sign.{sign_spelling, StartsWith}
+use Rattle.luf_str.specs.LongEnd.{opens_long}
+use Rattle.luf_lex.specs.First.{IsFirst, group_of}
+use Rattle.luf_lex.specs.declared.group.Group.TheVariants.{Other}
 use Rattle.luf_lex.specs.declared.token.Tok.TheVariants as tok
 use Rattle.luf_lex.specs.declared.token.Sign.{Sign}
 use Rattle.luf_lex.specs.declared.token.Sign.TheVariants.{Plus, Minus, LeftBracket, Dot}
 use Rattle.luf_lex.specs.declared.token.Kind.TheVariants.{Token}
 use Rattle.luf_lex.proofs.PlainLemmas.{sign_first}
-use Rattle.luf_guard.specs.Joins.{sign_goes_on}
+use Rattle.luf_guard.specs.inner.Joins.{sign_goes_on}
 
 -- whether a list begins with another
 starts : List ℕ → List ℕ → Bool
@@ -60,7 +60,7 @@ sign_classes Plus x = (refl, refl, refl)
 sign_classes _ x = (refl, refl, refl)
 
 -- no longer sign stands there
-none_longer : (s other : Sign) (x : List ℕ) → begins (sign_goes_on s) x ≡ false → length (sign_spelling s) < length (sign_spelling other) → Begins (sign_spelling s ++ x) (sign_spelling other) → ⊥
+none_longer : (s other : Sign) (x : List ℕ) → begins (sign_goes_on s) x ≡ false → length (sign_spelling s) < length (sign_spelling other) → StartsWith (sign_spelling s ++ x) (sign_spelling other) → ⊥
 none_longer s other x stop more is =
     let front : starts (sign_spelling s) (sign_spelling other) ≡ true = starts_itself (sign_spelling other) (sign_spelling s) x is (omega arith) in
     let next = next_byte (sign_goes_on s) (sign_spelling other) (sign_spelling s) x is more in

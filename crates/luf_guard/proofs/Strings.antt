@@ -7,12 +7,14 @@ use Rattle.luf_str.specs.Spelling.{IsLongSpelling}
 use Rattle.luf_str.specs.Value.{spelling_of}
 use Rattle.luf_str.proofs.LongLaws.{long_length}
 use Rattle.luf_str.proofs.Apart.{short_is_spelled}
-use Rattle.luf_lex.specs.Byte.{begins}
-use Rattle.luf_lex.specs.Spelling.{IsShortString, opens_long}
-use Rattle.luf_lex.specs.First.{IsFirst, group_of, Quoted, Bracketed}
+use Rattle.luf_byte.specs.Front.{begins}
+use Rattle.luf_lex.specs.Spelling.{IsShortString}
+use Rattle.luf_str.specs.LongEnd.{opens_long}
+use Rattle.luf_lex.specs.First.{IsFirst, group_of}
+use Rattle.luf_lex.specs.declared.group.Group.TheVariants.{Quoted, Bracketed}
 use Rattle.luf_lex.specs.declared.token.Tok.TheVariants.{Short, Long}
 use Rattle.luf_lex.specs.declared.token.Kind.TheVariants.{Token}
-use Rattle.luf_lex.proofs.BracketLemmas.{long_opens, opens_more}
+use Rattle.luf_str.proofs.BracketLaws.{long_opens, opens_more}
 use Rattle.luf_lex.proofs.LoneKind.{quoted_kind, first_alone, fronts_apart}
 use Rattle.luf_lex.proofs.StringLemmas.{first_long}
 

@@ -5,17 +5,18 @@ use Rattle.std.specs.List.{prefix_len}
 use Rattle.std.proofs.Math.Seq.{drop-append_seam, drop-drop}
 use Rattle.std.proofs.lemmas.Bool.{cond-false}
 use Rattle.luf_text.specs.declared.Span.{Span}
-use Rattle.luf_lex.specs.Byte.{is_blank, begins}
+use Rattle.luf_byte.specs.Class.{is_blank}
+use Rattle.luf_byte.specs.Front.{begins}
 use Rattle.luf_lex.specs.First.{IsFirst}
 use Rattle.luf_lex.specs.Cut.{Cuts}
 use Rattle.luf_lex.specs.declared.token.Kind.{Kind}
 use Rattle.luf_lex.specs.declared.token.Kind.TheVariants.{Blank}
 use Rattle.luf_lex.specs.declared.token.Piece.{Piece}
 use Rattle.luf_lex.proofs.PlainLemmas.{blank_first}
-use Rattle.luf_guard.specs.Space.{StandApart, stretch}
+use Rattle.luf_guard.specs.Space.{StandApart, span_between}
 
 made : Kind → ℕ → ℕ → Piece
-made kind from to = record { kind = kind; span = stretch from to }
+made kind from to = record { kind = kind; span = span_between from to }
 
 no_blank : (x : List ℕ) → begins is_blank x ≡ false → prefix_len is_blank x ≡ 0
 no_blank [] h = refl
@@ -25,12 +26,12 @@ no_blank (b ∷ x) h = cond-false (is_blank b) _ _ h
 pub blank_before : (x : List ℕ) → begins is_blank x ≡ false → IsFirst (32 ∷ x) Blank 1
 blank_before x h = blank_first (32 ∷ x) 1 refl refl (omega (arith, no_blank x h))
 
-second_piece : (source : List ℕ) (pieces : List Piece) (to n : ℕ) (last : Span) → Cuts (32 ∷ source) 0 pieces to → map (λ p. p.span) pieces ≡ stretch 0 1 ∷ stretch 1 (1 + n) ∷ last ∷ [] → (k : Kind) × IsFirst source k n
-second_piece source [] to n last cut three = let no : [] ≡ stretch 0 1 ∷ stretch 1 (1 + n) ∷ last ∷ [] = three in absurd cc
-second_piece source (p ∷ []) to n last cut three = let no : [] ≡ stretch 1 (1 + n) ∷ last ∷ [] = cc in absurd cc
+second_piece : (source : List ℕ) (pieces : List Piece) (to n : ℕ) (last : Span) → Cuts (32 ∷ source) 0 pieces to → map (λ p. p.span) pieces ≡ span_between 0 1 ∷ span_between 1 (1 + n) ∷ last ∷ [] → (k : Kind) × IsFirst source k n
+second_piece source [] to n last cut three = let no : [] ≡ span_between 0 1 ∷ span_between 1 (1 + n) ∷ last ∷ [] = three in absurd cc
+second_piece source (p ∷ []) to n last cut three = let no : [] ≡ span_between 1 (1 + n) ∷ last ∷ [] = cc in absurd cc
 second_piece source (p ∷ q ∷ pieces) to n last cut three =
-    let first : p.span ≡ stretch 0 1 = cc in
-    let second : q.span ≡ stretch 1 (1 + n) = cc in
+    let first : p.span ≡ span_between 0 1 = cc in
+    let second : q.span ≡ span_between 1 (1 + n) = cc in
     let size : q.span.to - q.span.from ≡ n = omega (arith, ap (λ (s : Span). s.to) second, ap (λ (s : Span). s.from) second) in
     let there : drop p.span.to (32 ∷ source) ≡ source = ap (λ (s : Span). drop s.to (32 ∷ source)) first in
     (q.kind, subst (λ m. IsFirst source q.kind m) size (subst (λ t. IsFirst t q.kind (q.span.to - q.span.from)) there cut.3.2))

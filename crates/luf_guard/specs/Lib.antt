@@ -1,2 +1,3 @@
+-- Where two tokens need a space between them. What stands in `inner` only private functions cite.
 pub mod Space
-pub mod Joins
+pub mod inner

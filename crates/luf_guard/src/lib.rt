@@ -2,7 +2,5 @@
 #![tactic(auto)]
 
 mod space;
-#[cfg(test)]
-mod tests;
 
 pub use space::needs_space;

@@ -1,15 +1,17 @@
 // The space that keeps two tokens apart.
 ghost use Rattle.std.specs.Prelude.{◌≡◌, ◌↔◌, IsTrue, false};
-ghost use Rattle.luf_num.specs.Digit as digit;
-ghost use Rattle.luf_lex.specs.Byte as byte;
+ghost use Rattle.luf_byte.specs.Class as class;
+ghost use Rattle.luf_byte.specs.Front.{begins};
 ghost use Rattle.luf_lex.specs.First as first;
-ghost use Rattle.luf_guard.specs.Joins as spec;
-ghost use Rattle.luf_guard.specs.Space.{IsSpelling, NeedSpace, StandApart};
+ghost use Rattle.luf_guard.specs.inner.Joins as spec;
+ghost use Rattle.luf_guard.specs.Space.{IsTokenSpelling, NeedSpace, StandApart};
+
+use luf_byte::{is_digit, is_letter, is_word_byte};
 
 /// Whether two token spellings need a space between them.
 pub fn needs_space(a: &[u8], b: &[u8]) -> bool
-    requires left { IsSpelling a.now }
-    requires right { IsSpelling b.now }
+    requires left { IsTokenSpelling a.now }
+    requires right { IsTokenSpelling b.now }
     ensures exact { IsTrue result ↔ NeedSpace a.now b.now }
     ensures apart { result ≡ false → StandApart a.now b.now }
 {
@@ -67,22 +69,10 @@ fn begins_numeral(text: &[u8]) -> bool
 }
 
 fn begins_word(text: &[u8]) -> bool
-    ensures { result ≡ byte.begins byte.is_letter text.now }
+    ensures { result ≡ begins class.is_letter text.now }
 {
     match text {
-        [b, ..] => b.is_ascii_alphabetic() || *b == b'_',
+        [b, ..] => is_letter(*b),
         [] => false,
     }
-}
-
-fn is_word_byte(b: u8) -> bool
-    ensures { result ≡ byte.is_word_byte b }
-{
-    b.is_ascii_alphanumeric() || b == b'_'
-}
-
-fn is_digit(b: u8) -> bool
-    ensures { result ≡ digit.is_digit b }
-{
-    b.is_ascii_digit()
 }

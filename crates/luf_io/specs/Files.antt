@@ -37,8 +37,9 @@ CountsReplace (Ok _) before after = after ≡ before
 CountsReplace (Err Failed) before after = Rose before after
 CountsReplace (Err Memory) before after = after ≡ before
 
--- The count of failed calls of `fetch` does the same, but that a missing file need not raise it.
+-- The count of failed calls of `fetch` does the same, but that it stays where a file is missing, and only there.
 abbrev pub CountsFetch : Result Bool FileFault → Option FileMap → List ℕ → ℕ → ℕ → Type 0
 CountsFetch (Ok _) told name before after = after ≡ before
-CountsFetch (Err Failed) told name before after = Rose before after ⊎ (IsMissing told name × (after ≡ before))
+CountsFetch (Err Failed) told name before after =
+    (IsMissing told name × (after ≡ before)) ⊎ ((IsMissing told name → ⊥) × Rose before after)
 CountsFetch (Err Memory) told name before after = after ≡ before

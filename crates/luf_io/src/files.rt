@@ -20,7 +20,7 @@ pub enum FileFault {
 
 /// Files by name.
 pub trait Files {
-    /// How many calls of `fetch` have failed. It never falls.
+    /// How many calls of `fetch` have failed, other than of a file that told files do not have. It never falls.
     ghost fetch_faults: { Self → ℕ };
 
     /// How many calls of `replace` have failed. It never falls.

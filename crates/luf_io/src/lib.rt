@@ -19,6 +19,3 @@ pub use write::{WriteErr, write_all};
 /// A pull or a put failed.
 #[derive(Clone, Copy, Debug, PartialEq, Eq)]
 pub struct Failed;
-
-#[cfg(test)]
-mod tests;

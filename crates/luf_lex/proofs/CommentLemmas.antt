@@ -1,21 +1,22 @@
 -- Comments at the front of a text.
 use Rattle.std.proofs.Common.{◌≡◌, ℕ, zero, suc, ◌-◌, ◌<◌, ◌≤◌, ◌⊎◌, true, false, List, [], ◌∷◌, length, get_or, take, drop, refl, sym, ap, subst, ◌∙◌, arith, inl, inr}
 use Rattle.std.proofs.lemmas.List.Sums.{prefix_len-le-length}
-use Rattle.std.proofs.lemmas.Bool.{cases_lt}
+use Rattle.std.proofs.lemmas.Bool.{cases_lt, false≢true, false_from_ne_true, and_parts}
 use Rattle.luf_lex.proofs.RunLemmas.{passing_front, front_passes}
 use Rattle.std.specs.List.{list_all, prefix_len}
-use Rattle.std.proofs.lemmas.Bool.{false≢true, false_from_ne_true, and_parts}
 use Rattle.std.proofs.lemmas.Bool.Decides.{nat_tests}
 use Rattle.std.proofs.lemmas.List.{take-append-drop, take_rest}
 use Rattle.memchr.specs.Find.{is_byte2}
 use Rattle.luf_str.specs.Spelling.{IsLongSpelling}
-use Rattle.luf_lex.specs.Byte.{in_line}
-use Rattle.luf_lex.specs.Spelling.{opens_long, IsShortComment, IsLongComment}
-use Rattle.luf_lex.specs.First.{Commented, group_of, IsFirst, IsFault, IsOpenLong}
+use Rattle.luf_byte.specs.Class.{in_line}
+use Rattle.luf_str.specs.LongEnd.{opens_long, IsOpenLong}
+use Rattle.luf_lex.specs.Spelling.{IsShortComment, IsLongComment}
+use Rattle.luf_lex.specs.First.{group_of, IsFirst, IsFault}
+use Rattle.luf_lex.specs.declared.group.Group.TheVariants.{Commented}
 use Rattle.luf_lex.specs.First as fault
 use Rattle.luf_lex.specs.declared.fault.LexWhat.TheVariants.{OpenLong}
 use Rattle.luf_lex.specs.declared.token.Kind.TheVariants.{Comment}
-use Rattle.luf_lex.proofs.BracketLemmas.{opens_more, long_opens}
+use Rattle.luf_str.proofs.BracketLaws.{opens_more, long_opens}
 use Rattle.luf_lex.proofs.LoneKind.{commented_kind, commented_cut, first_alone, longer_front, fronts_apart}
 
 -- ---- bytes that are in a line

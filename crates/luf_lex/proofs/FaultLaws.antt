@@ -4,19 +4,25 @@ use Rattle.std.proofs.lemmas.Bool.{cases_order, false≢true, and_parts, eqb-tru
 use Rattle.std.proofs.lemmas.Bool.Decides.{nat_tests}
 use Rattle.std.proofs.lemmas.List.{take-append-drop}
 use Rattle.luf_num.specs.Numeral.{HasNumeralForm}
-use Rattle.luf_str.specs.Bytes.{is_line_byte, is_quote, is_plain}
-use Rattle.luf_str.specs.Pieces.{IsLineEnd}
-use Rattle.luf_str.specs.Escape.{IsEscape, NoEscape}
+use Rattle.luf_byte.specs.Class.{is_line_byte}
+use Rattle.luf_str.specs.Bytes.{is_quote, is_plain}
+use Rattle.luf_byte.specs.LineEnd.{IsLineEndBefore}
+use Rattle.luf_str.specs.Escape.{IsEscape, NoEscape, IsBadEscape}
 use Rattle.luf_str.specs.Escape as escape_rule
 use Rattle.luf_str.specs.Value.{IsPart, Part, spelling_of, AreParts}
 use Rattle.luf_str.specs.Value as part_rule
 use Rattle.luf_str.specs.Spelling.{IsLongSpelling}
+use Rattle.luf_str.specs.Front.{IsEnd}
+use Rattle.luf_str.specs.ShortEnd.{IsShortEnd}
+use Rattle.luf_str.specs.declared.ends.ShortEnd.TheVariants as end
 use Rattle.luf_str.proofs.InPlace.{same_pieces, IsDetermined, NoPiece}
 use Rattle.luf_str.proofs.UnitLaws.{backslash_is_no_quote}
 use Rattle.luf_str.proofs.Unique.{IsPartOf, spelled, same_escape}
-use Rattle.luf_lex.specs.Byte.{begins}
-use Rattle.luf_lex.specs.Spelling.{opens_long, IsLongComment, IsShortString}
-use Rattle.luf_lex.specs.First.{Group, Quoted, Bracketed, Commented, Numeric, Other, group_of, is_tried, numeral_length, IsFirst, HasNone, IsOpenLong, IsOpenEnd, IsFault}
+use Rattle.luf_str.specs.LongEnd.{opens_long, IsOpenLong}
+use Rattle.luf_lex.specs.Spelling.{IsLongComment, IsShortString}
+use Rattle.luf_lex.specs.First.{group_of, is_tried, numeral_length, IsFirst, HasNone, IsFault}
+use Rattle.luf_lex.specs.declared.group.Group.{Group}
+use Rattle.luf_lex.specs.declared.group.Group.TheVariants.{Quoted, Bracketed, Commented, Numeric, Other}
 use Rattle.luf_lex.specs.First as fault
 use Rattle.luf_lex.specs.declared.fault.LexWhat.{LexWhat}
 use Rattle.luf_lex.specs.declared.fault.LexWhat.TheVariants.{NoToken, BadNumeral, BadEscape, OpenString, OpenLong}
@@ -81,7 +87,7 @@ part_some : {q : ℕ} {p m v : List ℕ} → IsPart q p m v → p ++ m ≡ [] �
 part_some (part_rule.plain q b m h) e = absurd cc
 part_some (part_rule.escape q f m v h) e = absurd cc
 
-line_some : (line next : List ℕ) → IsLineEnd line next → 0 < length line
+line_some : (line next : List ℕ) → IsLineEndBefore line next → 0 < length line
 line_some [] next h = absurd h
 line_some (a ∷ line) next h = omega arith
 
@@ -113,11 +119,10 @@ nothing_escapes e next v cut is = none_longer (escape_some is) (ap length cut)
         long [] next some same = omega arith
         long (b ∷ e) next some same = omega arith
 
-stops_open : (q : ℕ) (rest : List ℕ) → is_quote q ≡ true → IsOpenEnd rest → Stops q rest
-stops_open q rest quote (inl e) x m is cut = part_some is (cut ∙ e)
-stops_open q rest quote (inr (inl e)) x m is cut = part_is_not_bad [] nothing_escapes is (cut ∙ e)
-stops_open q [] quote (inr (inr line)) x m is cut = false≢true line
-stops_open q (c ∷ rest) quote (inr (inr line)) x m is cut = (part_begins c rest quote is cut).1 line
+stops_open : (q : ℕ) (rest : List ℕ) → is_quote q ≡ true → IsEnd rest ⊎ (rest ≡ 92 ∷ []) → Stops q rest
+stops_open q [] quote (inl end) x m is cut = part_some is cut
+stops_open q (c ∷ rest) quote (inl line) x m is cut = (part_begins c rest quote is cut).1 line
+stops_open q rest quote (inr e) x m is cut = part_is_not_bad [] nothing_escapes is (cut ∙ e)
 
 -- ---- no string stands where a reading stops before its quote
 
@@ -139,13 +144,41 @@ quoted_none : (q : ℕ) (parts : List Part) (rest : List ℕ) → is_quote q ≡
 quoted_none q parts rest quote are stops unclosed =
     none_alone (q ∷ (spelling_of parts ++ rest)) Quoted (Token Short) (quoted_group q (spelling_of parts ++ rest) quote) quoted_kind (λ n within s. no_short q parts rest quote are stops unclosed n s)
 
-open_is_unclosed : (q : ℕ) (rest behind : List ℕ) → is_quote q ≡ true → IsOpenEnd rest → rest ≡ q ∷ behind → ⊥
-open_is_unclosed q rest behind quote (inl e) closes = let no : [] ≡ q ∷ behind = sym e ∙ closes in cc
-open_is_unclosed q rest behind quote (inr (inl e)) closes = backslash_is_no_quote q quote (first_same 92 q [] behind (sym e ∙ closes)).0
-open_is_unclosed q rest behind quote (inr (inr line)) closes = quote_is_in_line q quote (sym (ap (begins is_line_byte) closes) ∙ line)
-  where
-    quote_is_in_line : (q : ℕ) → is_quote q ≡ true → is_line_byte q ≡ true → ⊥
-    quote_is_in_line q quote line = grind (arith, nat_tests)
+quote_is_in_line : (q : ℕ) → is_quote q ≡ true → is_line_byte q ≡ true → ⊥
+quote_is_in_line q quote line = grind (arith, nat_tests)
+
+open_is_unclosed : (q : ℕ) (rest behind : List ℕ) → is_quote q ≡ true → IsEnd rest ⊎ (rest ≡ 92 ∷ []) → rest ≡ q ∷ behind → ⊥
+open_is_unclosed q rest behind quote (inl end) closes = quote_is_in_line q quote (subst IsEnd closes end)
+open_is_unclosed q rest behind quote (inr e) closes = backslash_is_no_quote q quote (first_same 92 q [] behind (sym e ∙ closes)).0
+
+-- what stands where a reading of a short string stops
+abbrev pub Says : LexWhat → List ℕ → Type 0
+Says BadEscape rest = (next : List ℕ) × (rest ≡ 92 ∷ next) × IsBadEscape next
+Says OpenString rest = IsEnd rest ⊎ (rest ≡ 92 ∷ [])
+Says _ rest = ⊥
+
+abbrev pub StopsAt : LexWhat → List ℕ → Type 0
+StopsAt what text = (q : ℕ) × (parts : List Part) × (rest : List ℕ) × (is_quote q ≡ true) × AreParts q parts rest × (text ≡ q ∷ (spelling_of parts ++ rest)) × Says what rest
+
+bad_stops : (text : List ℕ) (at : ℕ) → IsShortEnd text (end.Bad at) → StopsAt BadEscape text
+bad_stops text at (q, parts, next, quote, are, bad, e, place) = (q, parts, 92 ∷ next, quote, are, e, (next, refl, bad))
+
+open_stops : (text : List ℕ) → IsShortEnd text end.Open → StopsAt OpenString text
+open_stops text (q, parts, rest, quote, are, e, says) = (q, parts, rest, quote, are, e, says)
+
+says_stops : (q : ℕ) (rest : List ℕ) (what : LexWhat) → is_quote q ≡ true → Says what rest → Stops q rest
+says_stops q rest BadEscape quote a = subst (Stops q) (sym a.1) (stops_bad q a.0 a.2.1)
+says_stops q rest OpenString quote a = stops_open q rest quote a
+says_stops q rest _ quote a = absurd a
+
+says_unclosed : (q : ℕ) (rest : List ℕ) (what : LexWhat) → is_quote q ≡ true → Says what rest → (behind : List ℕ) → rest ≡ q ∷ behind → ⊥
+says_unclosed q rest BadEscape quote a behind closes = backslash_is_no_quote q quote (first_same 92 q a.0 behind (sym a.1 ∙ closes)).0
+says_unclosed q rest OpenString quote a behind closes = open_is_unclosed q rest behind quote a closes
+says_unclosed q rest _ quote a behind closes = absurd a
+
+stopped_none : (what : LexWhat) (text : List ℕ) → StopsAt what text → HasNone text
+stopped_none what text (q, parts, rest, quote, are, e, says) =
+    subst HasNone (sym e) (quoted_none q parts rest quote are (says_stops q rest what quote says) (λ behind closes. says_unclosed q rest what quote says behind closes))
 
 -- ---- the other groups
 
@@ -183,22 +216,12 @@ commented_none rest unclosed kind n h = no_long n (h.long refl unclosed.0)
 pub fault_has_none : {text : List ℕ} {what : LexWhat} → IsFault text what → HasNone text
 fault_has_none (fault.no_token text e none) = none
 fault_has_none (fault.bad_numeral text e none) = numeric_none text e none
-fault_has_none (fault.bad_escape q parts next quote are some none) =
-    quoted_none q parts (92 ∷ next) quote are (stops_bad q next none) (λ behind closes. backslash_is_no_quote q quote (first_same 92 q next behind closes).0)
-fault_has_none (fault.open_string q parts rest quote are end) = quoted_none q parts rest quote are (stops_open q rest quote end) (λ behind closes. open_is_unclosed q rest behind quote end closes)
+fault_has_none (fault.bad_escape text at bad) = stopped_none BadEscape text (bad_stops text at bad)
+fault_has_none (fault.open_string text unclosed) = stopped_none OpenString text (open_stops text unclosed)
 fault_has_none (fault.open_long text unclosed) = bracketed_none text unclosed
 fault_has_none (fault.open_comment rest unclosed) = commented_none rest unclosed
 
 -- ---- a text has at most one fault
-
--- what stands where a reading of a short string stops
-abbrev Says : LexWhat → List ℕ → Type 0
-Says BadEscape rest = (next : List ℕ) × (rest ≡ 92 ∷ next) × (next ≢ []) × NoEscape next
-Says OpenString rest = IsOpenEnd rest
-Says _ rest = ⊥
-
-abbrev StopsAt : LexWhat → List ℕ → Type 0
-StopsAt what text = (q : ℕ) × (parts : List Part) × (rest : List ℕ) × (is_quote q ≡ true) × AreParts q parts rest × (text ≡ q ∷ (spelling_of parts ++ rest)) × Says what rest
 
 -- the faults of each group
 abbrev MayFault : Group → LexWhat → List ℕ → Type 0
@@ -209,42 +232,36 @@ MayFault Numeric BadNumeral text = Unit {0}
 MayFault Other NoToken text = Unit {0}
 MayFault _ _ text = ⊥
 
+stopped_may : (what : LexWhat) (text : List ℕ) → StopsAt what text → MayFault (group_of text) what text
+stopped_may what text stop =
+    subst (λ g. MayFault g what text) (sym (ap group_of stop.5 ∙ quoted_group stop.0 (spelling_of stop.1 ++ stop.2) stop.3)) stop
+
 may_fault : {text : List ℕ} {what : LexWhat} → IsFault text what → MayFault (group_of text) what text
 may_fault (fault.no_token text e none) = subst (λ g. MayFault g NoToken text) (sym e) tt
 may_fault (fault.bad_numeral text e none) = subst (λ g. MayFault g BadNumeral text) (sym e) tt
-may_fault (fault.bad_escape q parts next quote are some none) =
-    let text : List ℕ = q ∷ (spelling_of parts ++ 92 ∷ next) in
-    subst (λ g. MayFault g BadEscape text) (sym (quoted_group q (spelling_of parts ++ 92 ∷ next) quote)) (q, parts, 92 ∷ next, quote, are, refl, (next, refl, some, none))
-may_fault (fault.open_string q parts rest quote are end) =
-    let text : List ℕ = q ∷ (spelling_of parts ++ rest) in
-    subst (λ g. MayFault g OpenString text) (sym (quoted_group q (spelling_of parts ++ rest) quote)) (q, parts, rest, quote, are, refl, end)
+may_fault (fault.bad_escape text at bad) = stopped_may BadEscape text (bad_stops text at bad)
+may_fault (fault.open_string text unclosed) = stopped_may OpenString text (open_stops text unclosed)
 may_fault (fault.open_long text unclosed) = subst (λ g. MayFault g OpenLong text) (sym (bracketed_group text unclosed.0)) tt
 may_fault (fault.open_comment rest unclosed) = tt
 
-bad_is_not_open : (rest next : List ℕ) → rest ≡ 92 ∷ next → next ≢ [] → IsOpenEnd rest → ⊥
-bad_is_not_open rest next e some (inl none) = let no : [] ≡ 92 ∷ next = sym none ∙ e in cc
-bad_is_not_open rest next e some (inr (inl lone)) = some (first_same 92 92 next [] (sym e ∙ lone)).1
-bad_is_not_open rest next e some (inr (inr line)) = false≢true (sym (ap (begins is_line_byte) e) ∙ line)
+bad_is_not_open : (rest next : List ℕ) → rest ≡ 92 ∷ next → next ≢ [] → IsEnd rest ⊎ (rest ≡ 92 ∷ []) → ⊥
+bad_is_not_open rest next e some (inl end) = false≢true (subst IsEnd e end)
+bad_is_not_open rest next e some (inr lone) = some (first_same 92 92 next [] (sym e ∙ lone)).1
 
 same_says : (rest : List ℕ) (w v : LexWhat) → Says w rest → Says v rest → w ≡ v
 same_says rest BadEscape BadEscape a b = refl
 same_says rest OpenString OpenString a b = refl
-same_says rest BadEscape OpenString a b = absurd (bad_is_not_open rest a.0 a.1 a.2 b)
-same_says rest OpenString BadEscape a b = absurd (bad_is_not_open rest b.0 b.1 b.2 a)
+same_says rest BadEscape OpenString a b = absurd (bad_is_not_open rest a.0 a.1 a.2.0 b)
+same_says rest OpenString BadEscape a b = absurd (bad_is_not_open rest b.0 b.1 b.2.0 a)
 same_says rest BadEscape _ a b = absurd b
 same_says rest OpenString _ a b = absurd b
 same_says rest _ v a b = absurd a
-
-stops_where : (q : ℕ) (rest : List ℕ) (what : LexWhat) → is_quote q ≡ true → Says what rest → Stops q rest
-stops_where q rest BadEscape quote a = subst (Stops q) (sym a.1) (stops_bad q a.0 a.3)
-stops_where q rest OpenString quote a = stops_open q rest quote a
-stops_where q rest _ quote a = absurd a
 
 same_stop : (text : List ℕ) (w v : LexWhat) → StopsAt w text → StopsAt v text → w ≡ v
 same_stop text w v (q, parts, rest, quote, are, e, says) (p, others, rest', quote', all, f, says') =
     let same : p ≡ q = (first_same p q _ _ (sym f ∙ e)).0 in
     let moved = subst (λ x. AreParts x others rest' × (text ≡ x ∷ (spelling_of others ++ rest'))) same (all, f) in
-    let r = same_pieces (IsPartOf q) spelled (parts_determined q) parts others rest rest' are moved.0 (stops_where q rest w quote says) (stops_where q rest' v quote says') (first_same q q _ _ (sym e ∙ moved.1)).1 in
+    let r = same_pieces (IsPartOf q) spelled (parts_determined q) parts others rest rest' are moved.0 (says_stops q rest w quote says) (says_stops q rest' v quote says') (first_same q q _ _ (sym e ∙ moved.1)).1 in
     same_says rest w v says (subst (Says v) (sym r.1) says')
 
 same_fault : (group : Group) (w v : LexWhat) (text : List ℕ) → MayFault group w text → MayFault group v text → w ≡ v

@@ -4,7 +4,6 @@ pub mod NumeralLemmas
 pub mod TokenLemmas
 pub mod SpellingLemmas
 pub mod CutLemmas
-pub mod BracketLemmas
 pub mod LoneKind
 pub mod StringLemmas
 pub mod CommentLemmas
@@ -12,3 +11,11 @@ pub mod FaultLaws
 pub mod NoteLemmas
 pub mod OneCut
 pub mod WholeCut
+pub mod Decided
+pub mod ShortEnds
+pub mod LongEnds
+pub mod NumeralForms
+pub mod WordsAndSigns
+pub mod FirstOrFault
+pub mod ExactlyOne
+pub mod PieceSpellings

@@ -3,11 +3,14 @@ use Rattle.std.proofs.Common.{◌≡◌, ℕ, ◌<◌, ◌≤◌, Bool, true, fa
 use Rattle.std.proofs.lemmas.Bool.{false≢true, and_parts, eqb-true}
 use Rattle.std.proofs.lemmas.List.{take-append-drop, take-take, length-take-le}
 use Rattle.luf_str.specs.Bytes.{is_quote}
-use Rattle.luf_str.specs.Spelling.{IsSpelling}
+use Rattle.luf_str.specs.Spelling.{IsStringSpelling}
 use Rattle.luf_str.proofs.Apart.{apart}
-use Rattle.luf_lex.specs.Byte.{begins}
-use Rattle.luf_lex.specs.Spelling.{Spells, IsLongComment, opens_long}
-use Rattle.luf_lex.specs.First.{Group, Quoted, Bracketed, Commented, Numeric, Other, group_of, is_tried, begins_comment, begins_numeral, IsFirst}
+use Rattle.luf_byte.specs.Front.{begins}
+use Rattle.luf_lex.specs.Spelling.{Spells, IsLongComment}
+use Rattle.luf_str.specs.LongEnd.{opens_long}
+use Rattle.luf_lex.specs.First.{group_of, is_tried, begins_comment, begins_numeral, IsFirst}
+use Rattle.luf_lex.specs.declared.group.Group.{Group}
+use Rattle.luf_lex.specs.declared.group.Group.TheVariants.{Quoted, Bracketed, Commented, Numeric, Other}
 use Rattle.luf_lex.specs.declared.token.Tok.TheVariants.{Short, Long}
 use Rattle.luf_lex.specs.declared.token.Kind.{Kind}
 use Rattle.luf_lex.specs.declared.token.Kind.TheVariants.{Token, Comment}
@@ -98,7 +101,7 @@ pub longer_front : (text : List ℕ) (n m : ℕ) → n ≤ m → take m text ≡
 longer_front text n m le = sym (take-append-drop n (take m text)) ∙ ap (λ t. t ++ drop n (take m text)) (take-take n m text le)
 
 -- of two fronts one at most is a string
-pub fronts_apart : (text : List ℕ) (n m : ℕ) → n < m → m ≤ length text → IsSpelling (take n text) → IsSpelling (take m text) → ⊥
+pub fronts_apart : (text : List ℕ) (n m : ℕ) → n < m → m ≤ length text → IsStringSpelling (take n text) → IsStringSpelling (take m text) → ⊥
 fronts_apart text n m more within a b =
-    let nothing : drop n (take m text) ≡ [] = apart (take n text) (drop n (take m text)) a (subst IsSpelling (longer_front text n m (omega arith)) b) in
+    let nothing : drop n (take m text) ≡ [] = apart (take n text) (drop n (take m text)) a (subst IsStringSpelling (longer_front text n m (omega arith)) b) in
     omega (arith, ap length nothing, length-drop n (take m text), length-take-le m text within)

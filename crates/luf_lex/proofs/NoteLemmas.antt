@@ -5,7 +5,7 @@ use Rattle.std.specs.Prelude.{slice_range}
 use Rattle.std.specs.List.{suffix_len}
 use Rattle.std.proofs.Math.Seq.{take-length, drop-length}
 use Rattle.std.proofs.lemmas.List.{drop-append-le, take-append-le, drop_more, take_more, take_all, drop_all, get_or_default}
-use Rattle.luf_lex.specs.Leads.{stretch, IsRising, IsLeadIndex}
+use Rattle.luf_lex.specs.inner.Leads.{notes_at, IsRising, IsLeadIndex}
 use Rattle.luf_lex.specs.Note.{is_comment, is_content, note_of, lead_from, lead_of, last_gap}
 use Rattle.luf_lex.specs.Tokens.{is_token, tokens_of}
 use Rattle.luf_lex.specs.declared.note.Note.{Note}
@@ -41,14 +41,14 @@ rising_next (a ∷ b ∷ bounds) end (suc n) h within = rising_next (b ∷ bound
 rising_at : (bounds : List ℕ) (end n : ℕ) → IsRising end bounds → n + 1 < length bounds → (get_or bounds n 0 ≤ get_or bounds (n + 1) 0) × (get_or bounds (n + 1) 0 ≤ end)
 rising_at bounds end n h within = rw add-one (rising_next bounds end n h within)
 
-stretch_next : (notes : List Note) (bounds : List ℕ) (n : ℕ) → n + 1 < length bounds → stretch notes bounds n ≡ slice_range notes (get_or bounds n 0) (get_or bounds (suc n) 0)
-stretch_next notes [] n within = absurd (omega arith)
-stretch_next notes (a ∷ []) n within = absurd (omega arith)
-stretch_next notes (a ∷ b ∷ bounds) zero within = refl
-stretch_next notes (a ∷ b ∷ bounds) (suc n) within = stretch_next notes (b ∷ bounds) n (omega arith)
+notes_at_next : (notes : List Note) (bounds : List ℕ) (n : ℕ) → n + 1 < length bounds → notes_at notes bounds n ≡ slice_range notes (get_or bounds n 0) (get_or bounds (suc n) 0)
+notes_at_next notes [] n within = absurd (omega arith)
+notes_at_next notes (a ∷ []) n within = absurd (omega arith)
+notes_at_next notes (a ∷ b ∷ bounds) zero within = refl
+notes_at_next notes (a ∷ b ∷ bounds) (suc n) within = notes_at_next notes (b ∷ bounds) n (omega arith)
 
-stretch_at : (notes : List Note) (bounds : List ℕ) (n : ℕ) → n + 1 < length bounds → stretch notes bounds n ≡ slice_range notes (get_or bounds n 0) (get_or bounds (n + 1) 0)
-stretch_at notes bounds n within = rw add-one (stretch_next notes bounds n within)
+notes_at_at : (notes : List Note) (bounds : List ℕ) (n : ℕ) → n + 1 < length bounds → notes_at notes bounds n ≡ slice_range notes (get_or bounds n 0) (get_or bounds (n + 1) 0)
+notes_at_at notes bounds n within = rw add-one (notes_at_next notes bounds n within)
 
 -- the same, as the code reads the two
 pub read_rising : (bounds : List ℕ) (end n from to : ℕ) → IsRising end bounds → n + 1 < length bounds → from ≡ get_or bounds n from → to ≡ get_or bounds (n + 1) to → (from ≤ to) × (to ≤ end)
@@ -58,11 +58,11 @@ read_rising bounds end n from to h within is_from is_to =
     let same_to : get_or bounds (n + 1) to ≡ get_or bounds (n + 1) 0 = get_or_default bounds (n + 1) to 0 within in
     (omega arith, omega arith)
 
-pub read_stretch : (notes : List Note) (bounds : List ℕ) (n from to : ℕ) → n + 1 < length bounds → from ≡ get_or bounds n from → to ≡ get_or bounds (n + 1) to → slice_range notes from to ≡ stretch notes bounds n
-read_stretch notes bounds n from to within is_from is_to =
+pub read_notes : (notes : List Note) (bounds : List ℕ) (n from to : ℕ) → n + 1 < length bounds → from ≡ get_or bounds n from → to ≡ get_or bounds (n + 1) to → slice_range notes from to ≡ notes_at notes bounds n
+read_notes notes bounds n from to within is_from is_to =
     ap (λ i. slice_range notes i to) (is_from ∙ get_or_default bounds n from 0 (omega arith))
     ∙ ap (λ i. slice_range notes (get_or bounds n 0) i) (is_to ∙ get_or_default bounds (n + 1) to 0 within)
-    ∙ sym (stretch_at notes bounds n within)
+    ∙ sym (notes_at_at notes bounds n within)
 
 -- ---- one more note
 range_push : (notes : List Note) (x : Note) (a b : ℕ) → a ≤ b → b ≤ length notes → slice_range (notes ++ x ∷ []) a b ≡ slice_range notes a b
@@ -70,25 +70,25 @@ range_push notes x a b le within =
     ap (λ ys. take (b - a) ys) (drop-append-le a notes (x ∷ []) (omega arith))
     ∙ take-append-le (b - a) (drop a notes) (x ∷ []) (omega (arith, length-drop a notes))
 
-stretch_note : (notes : List Note) (x : Note) (a : ℕ) (bounds : List ℕ) (n : ℕ) → IsRising (length notes) (a ∷ bounds) → stretch (notes ++ x ∷ []) (a ∷ bounds) n ≡ stretch notes (a ∷ bounds) n ++ cond (length bounds == n) (x ∷ []) []
-stretch_note notes x a [] zero h = drop-append-le a notes (x ∷ []) h
-stretch_note notes x a [] (suc n) h = ap (λ b. cond b (x ∷ []) []) (sym (eqb-zero-suc n))
-stretch_note notes x a (b ∷ bounds) zero h = range_push notes x a b h.0 (rising_first b bounds _ h.1) ∙ sym (append-nil _) ∙ ap (λ t. slice_range notes a b ++ cond t (x ∷ []) []) (sym (eqb-suc-zero (length bounds)))
-stretch_note notes x a (b ∷ bounds) (suc n) h = stretch_note notes x b bounds n h.1 ∙ ap (λ t. stretch notes (b ∷ bounds) n ++ cond t (x ∷ []) []) (sym (eqb-suc-suc (length bounds) n))
+notes_at_note : (notes : List Note) (x : Note) (a : ℕ) (bounds : List ℕ) (n : ℕ) → IsRising (length notes) (a ∷ bounds) → notes_at (notes ++ x ∷ []) (a ∷ bounds) n ≡ notes_at notes (a ∷ bounds) n ++ cond (length bounds == n) (x ∷ []) []
+notes_at_note notes x a [] zero h = drop-append-le a notes (x ∷ []) h
+notes_at_note notes x a [] (suc n) h = ap (λ b. cond b (x ∷ []) []) (sym (eqb-zero-suc n))
+notes_at_note notes x a (b ∷ bounds) zero h = range_push notes x a b h.0 (rising_first b bounds _ h.1) ∙ sym (append-nil _) ∙ ap (λ t. slice_range notes a b ++ cond t (x ∷ []) []) (sym (eqb-suc-zero (length bounds)))
+notes_at_note notes x a (b ∷ bounds) (suc n) h = notes_at_note notes x b bounds n h.1 ∙ ap (λ t. notes_at notes (b ∷ bounds) n ++ cond t (x ∷ []) []) (sym (eqb-suc-suc (length bounds) n))
 
 -- ---- one more bound
-after_all : (notes : List Note) (n : ℕ) → stretch notes (length notes ∷ []) n ≡ []
+after_all : (notes : List Note) (n : ℕ) → notes_at notes (length notes ∷ []) n ≡ []
 after_all notes zero = drop-length notes
 after_all notes (suc n) = refl
 
 all_range : (notes : List Note) (a : ℕ) → slice_range notes a (length notes) ≡ drop a notes
 all_range notes a = ap (λ n. take n (drop a notes)) (sym (length-drop a notes)) ∙ take-length (drop a notes)
 
-stretch_bound : (notes : List Note) (a : ℕ) (bounds : List ℕ) (n : ℕ) → stretch notes ((a ∷ bounds) ++ length notes ∷ []) n ≡ stretch notes (a ∷ bounds) n
-stretch_bound notes a [] zero = all_range notes a
-stretch_bound notes a [] (suc n) = after_all notes n
-stretch_bound notes a (b ∷ bounds) zero = refl
-stretch_bound notes a (b ∷ bounds) (suc n) = stretch_bound notes b bounds n
+notes_at_bound : (notes : List Note) (a : ℕ) (bounds : List ℕ) (n : ℕ) → notes_at notes ((a ∷ bounds) ++ length notes ∷ []) n ≡ notes_at notes (a ∷ bounds) n
+notes_at_bound notes a [] zero = all_range notes a
+notes_at_bound notes a [] (suc n) = after_all notes n
+notes_at_bound notes a (b ∷ bounds) zero = refl
+notes_at_bound notes a (b ∷ bounds) (suc n) = notes_at_bound notes b bounds n
 
 -- ---- one more piece
 count_step : (b : Bool) (q : Piece) (n : ℕ) (xs ys : List Piece) → length xs ≡ length ys + n → length (cond b (q ∷ xs) xs) ≡ length (cond b (q ∷ ys) ys) + n
@@ -112,12 +112,12 @@ pub record IsLeadIndexSoFar (notes : List Note) (bounds : List ℕ) (before afte
   pub rising : IsRising (length notes) bounds
   pub count : length bounds ≡ length (tokens_of before) + 1
   pub few : length notes ≤ length before
-  pub leads : (n : ℕ) → stretch notes bounds n ++ lead_from n before after ≡ lead_of pieces n
+  pub leads : (n : ℕ) → notes_at notes bounds n ++ lead_from n before after ≡ lead_of pieces n
 
 pub none_so_far : (pieces : List Piece) → IsLeadIndexSoFar [] (0 ∷ []) [] pieces pieces
 none_so_far pieces = record { rising = omega arith; count = refl; few = omega arith; leads = from }
   where
-    from : (n : ℕ) → stretch [] (0 ∷ []) n ++ lead_from n [] pieces ≡ lead_of pieces n
+    from : (n : ℕ) → notes_at [] (0 ∷ []) n ++ lead_from n [] pieces ≡ lead_of pieces n
     from zero = refl
     from (suc n) = refl
 
@@ -138,10 +138,10 @@ with_comment notes (a ∷ bounds) before p after pieces h e no_token =
       count = omega (arith, h.count, count_piece before p, ap one no_token);
       few = omega (arith, h.few, length-append notes (x ∷ []), length-append before (p ∷ []));
       leads = λ n.
-          ap (λ ys. ys ++ lead_from n (before ++ p ∷ []) after) (stretch_note notes x a bounds n h.rising)
-          ∙ append_assoc (stretch notes (a ∷ bounds) n) _ _
-          ∙ ap (λ m. stretch notes (a ∷ bounds) n ++ (cond (m == n) (x ∷ []) [] ++ lead_from n (before ++ p ∷ []) after)) same
-          ∙ ap (λ ys. stretch notes (a ∷ bounds) n ++ ys) (sym (lead_comment n before p after e))
+          ap (λ ys. ys ++ lead_from n (before ++ p ∷ []) after) (notes_at_note notes x a bounds n h.rising)
+          ∙ append_assoc (notes_at notes (a ∷ bounds) n) _ _
+          ∙ ap (λ m. notes_at notes (a ∷ bounds) n ++ (cond (m == n) (x ∷ []) [] ++ lead_from n (before ++ p ∷ []) after)) same
+          ∙ ap (λ ys. notes_at notes (a ∷ bounds) n ++ ys) (sym (lead_comment n before p after e))
           ∙ h.leads n;
     }
 
@@ -152,8 +152,8 @@ with_token notes (a ∷ bounds) before p after pieces h no_comment e = record {
   count = omega (arith, h.count, count_piece before p, ap one e, length-append (a ∷ bounds) (length notes ∷ []));
   few = omega (arith, h.few, length-append before (p ∷ []));
   leads = λ n.
-      ap (λ ys. ys ++ lead_from n (before ++ p ∷ []) after) (stretch_bound notes a bounds n)
-      ∙ ap (λ ys. stretch notes (a ∷ bounds) n ++ ys) (sym (lead_other n before p after no_comment))
+      ap (λ ys. ys ++ lead_from n (before ++ p ∷ []) after) (notes_at_bound notes a bounds n)
+      ∙ ap (λ ys. notes_at notes (a ∷ bounds) n ++ ys) (sym (lead_other n before p after no_comment))
       ∙ h.leads n;
 }
 
@@ -162,7 +162,7 @@ with_other notes bounds before p after pieces h no_comment no_token = record {
   rising = h.rising;
   count = omega (arith, h.count, count_piece before p, ap one no_token);
   few = omega (arith, h.few, length-append before (p ∷ []));
-  leads = λ n. ap (λ ys. stretch notes bounds n ++ ys) (sym (lead_other n before p after no_comment)) ∙ h.leads n;
+  leads = λ n. ap (λ ys. notes_at notes bounds n ++ ys) (sym (lead_other n before p after no_comment)) ∙ h.leads n;
 }
 
 -- all that is left from a place on
@@ -211,7 +211,7 @@ last_bound notes [] before pieces all h = absurd (omega (arith, h.count))
 last_bound notes (a ∷ bounds) before pieces all h = record {
   rising = rising_push (a ∷ bounds) (length notes) h.rising;
   count = omega (arith, h.count, length_tokens pieces, ap (λ ps. length (tokens_of ps)) all, length-append (a ∷ bounds) (length notes ∷ []));
-  leads = λ n. stretch_bound notes a bounds n ∙ sym (append-nil _) ∙ h.leads n;
+  leads = λ n. notes_at_bound notes a bounds n ∙ sym (append-nil _) ∙ h.leads n;
 }
 
 pub lead_index : (notes : List Note) (bounds new_bounds : List ℕ) (pieces : List Piece) (i len : ℕ) → length pieces ≤ i → len ≡ length notes → new_bounds ≡ bounds ++ len ∷ [] → IsLeadIndexSoFar notes bounds (take i pieces) (drop i pieces) pieces → IsLeadIndex notes new_bounds pieces

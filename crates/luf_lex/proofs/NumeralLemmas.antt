@@ -1,16 +1,16 @@
 -- The scan of a numeral, step by step.
-use Rattle.std.proofs.Common.{◌≡◌, ℕ, zero, suc, ◌+◌, ◌-◌, ◌<◌, ◌≤◌, Bool, true, false, cond, ◌&&◌, ◌||◌, eqb, List, [], ◌∷◌, length, take, drop, refl, sym, ap, ◌∙◌, subst, arith, get_or}
-use Rattle.std.proofs.Common.{◌⊎◌, inl, inr}
+use Rattle.std.proofs.Common.{◌≡◌, ℕ, zero, suc, ◌+◌, ◌-◌, ◌<◌, ◌≤◌, Bool, true, false, cond, ◌&&◌, ◌||◌, eqb, List, [], ◌∷◌, length, take, drop, refl, sym, ap, ◌∙◌, subst, arith, get_or, ◌⊎◌, inl, inr}
 use Rattle.std.proofs.lemmas.Bool.{or_cases, eqb-true}
 use Rattle.std.proofs.lemmas.List.{drop-drop, drop_all}
-use Rattle.luf_num.specs.Digit.{is_hex_digit}
-use Rattle.luf_lex.specs.Byte.{is_letter, begins}
+use Rattle.luf_byte.specs.Class.{is_hex_digit, is_letter}
+use Rattle.luf_byte.specs.Front.{begins}
 use Rattle.luf_num.specs.Numeral.{is_decimal_mark, is_binary_mark, HasNumeralForm}
 use Rattle.luf_lex.specs.declared.token.Tok.TheVariants.{Number}
 use Rattle.luf_lex.specs.declared.token.Kind.TheVariants.{Token}
-use Rattle.luf_lex.specs.First.{numeral_tail, numeral_length, begins_hexadecimal, IsFirst, group_of, Numeric, is_tried, IsFault, bad_numeral}
+use Rattle.luf_lex.specs.First.{numeral_tail, numeral_length, begins_hexadecimal, IsFirst, group_of, is_tried, IsFault, bad_numeral}
+use Rattle.luf_lex.specs.declared.group.Group.TheVariants.{Numeric}
 use Rattle.luf_lex.specs.declared.fault.LexWhat.TheVariants.{BadNumeral}
-use Rattle.luf_lex.specs.Scan.{goes_on, mark_of, step_of}
+use Rattle.luf_lex.specs.inner.Scan.{is_scanned, mark_of, step_of}
 
 -- the same over what the tests answer: m a mark, s a sign behind it, h a hexadecimal digit, d a point, l a letter
 on_two : (m s g l : Bool) (f : List ℕ → ℕ) (b c : ℕ) (rest : List ℕ) → 0 < cond (m && s) 2 (cond (m || g) 1 0)
@@ -65,7 +65,7 @@ within_one false = omega arith
 
 pub step_within : (mark : ℕ → Bool) (text : List ℕ) → step_of mark text ≤ length text
 step_within mark [] = omega arith
-step_within mark (b ∷ []) = within_one (goes_on mark b)
+step_within mark (b ∷ []) = within_one (is_scanned mark b)
 step_within mark (b ∷ c ∷ rest) = omega (arith, within_two (mark b) (eqb c 43 || eqb c 45) (is_hex_digit b || eqb b 46))
 
 mark_is_letter : (lower : ℕ) → is_letter lower ≡ true → is_letter (lower - 32) ≡ true → (b : ℕ) → mark_of lower b ≡ true → is_letter b ≡ true

@@ -1,64 +1,27 @@
--- A source has at most one cut and at most one fault, and not both.
-use Rattle.std.proofs.Common.{◌≡◌, ℕ, ◌-◌, Bool, true, false, cond, eqb, ◌&&◌, List, [], ◌∷◌, ◌++◌, length, take, drop, length-drop, refl, sym, ap, ◌∙◌, subst, arith}
+-- A source has at most one cut and at most one fault, and never both.
+use Rattle.std.proofs.Common.{◌≡◌, ℕ, ◌-◌, true, List, [], ◌∷◌, ◌++◌, length, take, drop, length-drop, refl, sym, ap, ◌∙◌, subst, arith}
 use Rattle.std.proofs.lemmas.Bool.{false≢true}
-use Rattle.luf_str.specs.Bytes.{is_line_byte}
-use Rattle.luf_lex.specs.Byte.{is_letter, is_word_byte, is_blank, begins}
+use Rattle.luf_byte.specs.Class.{is_line_byte, is_letter, is_word_byte, is_blank}
+use Rattle.luf_byte.specs.Front.{begins}
 use Rattle.luf_lex.specs.Word.{word_spelling}
 use Rattle.luf_lex.specs.Sign.{sign_spelling}
 use Rattle.luf_lex.specs.Spelling.{Spells, IsName}
-use Rattle.luf_lex.specs.First.{Group, Quoted, Bracketed, Commented, Numeric, Other, group_of, is_tried, IsFirst, IsFault, HasNone}
+use Rattle.luf_lex.specs.First.{group_of, is_tried, IsFirst, IsFault, HasNone}
+use Rattle.luf_lex.specs.declared.group.Group.{Group}
+use Rattle.luf_lex.specs.declared.group.Group.TheVariants.{Quoted, Bracketed, Commented, Numeric, Other}
 use Rattle.luf_lex.specs.Cut.{Cuts, IsCut, IsLexFault, head_of, head_end}
 use Rattle.luf_lex.specs.declared.fault.LexWhat.{LexWhat}
 use Rattle.luf_lex.specs.declared.token.Word.{Word as Keyword}
-use Rattle.luf_lex.specs.declared.token.Word.TheVariants.{And, Break, Do, Else, ElseIf, End, False, For, Function, Goto, If, In, Local, Nil, Not, Or, Repeat, Return, Then, True, Until, While}
 use Rattle.luf_lex.specs.declared.token.Sign.{Sign as Mark}
-use Rattle.luf_lex.specs.declared.token.Sign.TheVariants.{Plus, Minus, Star, Slash, Percent, Caret, Hash, Amp, Tilde, Bar, ShiftLeft, ShiftRight, SlashSlash, Equal, NotEqual, LessEqual, GreaterEqual, Less, Greater, Assign, LeftParen, RightParen, LeftBrace, RightBrace, LeftBracket, RightBracket, DoubleColon, Semicolon, Colon, Comma, Dot, DotDot, Dots}
 use Rattle.luf_lex.specs.declared.token.Tok.TheVariants.{Name, Word, Sign}
 use Rattle.luf_lex.specs.declared.token.Kind.{Kind}
 use Rattle.luf_lex.specs.declared.token.Kind.TheVariants.{Token, Blank, LineEnd}
 use Rattle.luf_lex.specs.declared.token.Piece.{Piece}
 use Rattle.luf_lex.proofs.RunLemmas.{begins_apart, begins_weaker}
 use Rattle.luf_lex.proofs.PlainLemmas.{letter_is_word, letter_is_no_blank, letter_is_no_line, blank_is_no_line, keyword_letter, sign_apart, sign_no_word, sign_no_blank, sign_no_line, line_end_is_line}
+use Rattle.luf_lex.proofs.WordsAndSigns.{word_is_one, sign_is_one}
 use Rattle.luf_lex.proofs.LoneKind.{quoted_kind, bracketed_kind, commented_kind}
 use Rattle.luf_lex.proofs.FaultLaws.{numeric_kind, one_length, fault_has_none, one_fault as one_cause}
-
--- ---- a spelling is of one keyword, and of one sign
-
-same : List ℕ → List ℕ → Bool
-same [] [] = true
-same (a ∷ front) (b ∷ back) = eqb a b && same front back
-same [] (b ∷ back) = false
-same (a ∷ front) [] = false
-
-pick_word : List Keyword → List ℕ → Keyword
-pick_word [] text = And
-pick_word (w ∷ words) text = cond (same (word_spelling w) text) w (pick_word words text)
-
-words : List Keyword
-words = And ∷ Break ∷ Do ∷ Else ∷ ElseIf ∷ End ∷ False ∷ For ∷ Function ∷ Goto ∷ If ∷ In ∷ Local ∷ Nil ∷ Not ∷ Or ∷ Repeat ∷ Return ∷ Then ∷ True ∷ Until ∷ While ∷ []
-
-picked_word : (w : Keyword) → pick_word words (word_spelling w) ≡ w
-unfolding pick_word same words
-picked_word And = refl
-picked_word _ = refl
-
-word_is_one : (v w : Keyword) → word_spelling v ≡ word_spelling w → v ≡ w
-word_is_one v w e = sym (picked_word v) ∙ ap (pick_word words) e ∙ picked_word w
-
-pick_sign : List Mark → List ℕ → Mark
-pick_sign [] text = Plus
-pick_sign (s ∷ signs) text = cond (same (sign_spelling s) text) s (pick_sign signs text)
-
-signs : List Mark
-signs = Plus ∷ Minus ∷ Star ∷ Slash ∷ Percent ∷ Caret ∷ Hash ∷ Amp ∷ Tilde ∷ Bar ∷ ShiftLeft ∷ ShiftRight ∷ SlashSlash ∷ Equal ∷ NotEqual ∷ LessEqual ∷ GreaterEqual ∷ Less ∷ Greater ∷ Assign ∷ LeftParen ∷ RightParen ∷ LeftBrace ∷ RightBrace ∷ LeftBracket ∷ RightBracket ∷ DoubleColon ∷ Semicolon ∷ Colon ∷ Comma ∷ Dot ∷ DotDot ∷ Dots ∷ []
-
-picked_sign : (s : Mark) → pick_sign signs (sign_spelling s) ≡ s
-unfolding pick_sign same signs
-picked_sign Plus = refl
-picked_sign _ = refl
-
-sign_is_one : (r s : Mark) → sign_spelling r ≡ sign_spelling s → r ≡ s
-sign_is_one r s e = sym (picked_sign r) ∙ ap (pick_sign signs) e ∙ picked_sign s
 
 -- ---- where nothing else begins, a text is spelled by one kind
 
@@ -151,8 +114,8 @@ one_cut source pieces others cut whole =
     let rest = same_stop source (head_end source) cut.rest whole.rest (length source) (length source) cut.cut whole.cut (none_at_end source) (none_at_end source) in
     cut.head ∙ ap (λ ps. head_of source ++ ps) rest.0 ∙ sym whole.head
 
-pub cut_or_fault : (source : List ℕ) (pieces : List Piece) (at : ℕ) (what : LexWhat) → IsCut source pieces → IsLexFault source at what → ⊥
-cut_or_fault source pieces at what cut fault =
+pub cut_excludes_fault : (source : List ℕ) (pieces : List Piece) (at : ℕ) (what : LexWhat) → IsCut source pieces → IsLexFault source at what → ⊥
+cut_excludes_fault source pieces at what cut fault =
     let stop = same_stop source (head_end source) cut.rest fault.pieces (length source) at cut.cut fault.before (none_at_end source) (fault_has_none fault.fault) in
     omega (arith, stop.1, fault.inside)
 

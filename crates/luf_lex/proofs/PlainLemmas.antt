@@ -1,16 +1,18 @@
 -- The first piece of a text where neither a string, a comment nor a numeral begins.
-use Rattle.std.proofs.Common.{◌≡◌, ℕ, ◌<◌, ◌≤◌, Bool, true, false, List, length, take, refl, sym, ap, ◌∙◌, subst, arith, inl, inr}
+use Rattle.std.proofs.Common.{◌≡◌, ℕ, ◌<◌, ◌≤◌, ◌⊎◌, Bool, true, false, cond, eqb, List, [], ◌∷◌, length, get_or, take, refl, sym, ap, ◌∙◌, subst, arith, inl, inr}
 use Rattle.std.specs.List.{list_all, prefix_len}
-use Rattle.std.proofs.lemmas.Bool.{or_left, false≢true}
+use Rattle.std.proofs.lemmas.Bool.{or_left, or_cases, eqb-true, false≢true}
 use Rattle.std.proofs.lemmas.Bool.Decides.{nat_tests}
 use Rattle.std.proofs.lemmas.List.{length-take, length-take-le}
 use Rattle.std.proofs.lemmas.List.Sums.{prefix_len-le-length}
-use Rattle.luf_str.specs.Bytes.{is_line_byte}
-use Rattle.luf_lex.specs.Byte.{is_letter, is_word_byte, is_blank, begins}
+use Rattle.luf_byte.specs.Class.{is_line_byte, is_letter, is_word_byte, is_blank}
+use Rattle.luf_byte.specs.Front.{begins}
 use Rattle.luf_lex.specs.Word.{word_spelling}
-use Rattle.luf_lex.specs.Sign.{sign_spelling, Begins}
-use Rattle.luf_lex.specs.Spelling.{Spells, IsLineEnd}
-use Rattle.luf_lex.specs.First.{IsFirst, HasNone, is_tried, group_of, Other}
+use Rattle.luf_lex.specs.Sign.{sign_spelling, StartsWith}
+use Rattle.luf_lex.specs.Spelling.{Spells}
+use Rattle.luf_byte.specs.LineEnd.{IsLineEnd, is_line_pair, line_end_length}
+use Rattle.luf_lex.specs.First.{IsFirst, HasNone, is_tried, group_of}
+use Rattle.luf_lex.specs.declared.group.Group.TheVariants.{Other}
 use Rattle.luf_lex.specs.declared.token.Word.{Word as Keyword}
 use Rattle.luf_lex.specs.declared.token.Word.TheVariants.{And}
 use Rattle.luf_lex.specs.declared.token.Sign.{Sign as Mark}
@@ -155,23 +157,86 @@ blank_first text n group first run =
       each = subst (λ i. list_all is_blank (take i text) ≡ true) (sym run) (front_passes is_blank text);
     })
 
-line_end_some : (text : List ℕ) → IsLineEnd text → 0 < length text
-line_end_some text (inl e) = omega (arith, ap length e)
-line_end_some text (inr (inl e)) = omega (arith, ap length e)
-line_end_some text (inr (inr (inl e))) = omega (arith, ap length e)
-line_end_some text (inr (inr (inr e))) = omega (arith, ap length e)
+-- ---- line ends
 
-pub line_end_first : (text : List ℕ) (n : ℕ) → group_of text ≡ Other → begins is_line_byte text ≡ true → n ≤ length text → IsLineEnd (take n text) → ((m : ℕ) → n < m → m ≤ length text → IsLineEnd (take m text) → ⊥) → IsFirst text LineEnd n
-line_end_first text n group first within spelled longest =
-    plain_first text LineEnd n group refl (omega (arith, line_end_some (take n text) spelled, length-take n text)) within spelled
-    (λ other m t more inside s. longest m more inside (line_spelled other (take m text) t s (begins_take is_line_byte text m (omega arith) ∙ first)))
+line_end_size : (line : List ℕ) → IsLineEnd line → (0 < length line) × (length line ≤ 2)
+line_end_size line (inl e) = (omega (arith, ap length e), omega (arith, ap length e))
+line_end_size line (inr (inl e)) = (omega (arith, ap length e), omega (arith, ap length e))
+line_end_size line (inr (inr (inl e))) = (omega (arith, ap length e), omega (arith, ap length e))
+line_end_size line (inr (inr (inr e))) = (omega (arith, ap length e), omega (arith, ap length e))
 
-sign_some : (s : Mark) → 0 < length (sign_spelling s)
+lone_line_end : (b : ℕ) → is_line_byte b ≡ true → IsLineEnd (b ∷ [])
+lone_line_end b h = elim (or_cases (eqb b 10) (eqb b 13) h) [
+  | inl e ↦ inl (ap (λ x. x ∷ []) (eqb-true b 10 e))
+  | inr e ↦ inr (inl (ap (λ x. x ∷ []) (eqb-true b 13 e)))
+]
+
+pair_line_end : (a b : ℕ) → is_line_pair a b ≡ true → IsLineEnd (a ∷ b ∷ [])
+pair_line_end a b h =
+    let first : is_line_byte a ≡ true = grind (arith, nat_tests) in
+    let second : is_line_byte b ≡ true = grind (arith, nat_tests) in
+    by_bytes (or_cases (eqb a 10) (eqb a 13) first) (or_cases (eqb b 10) (eqb b 13) second)
+  where
+    by_bytes : (eqb a 10 ≡ true) ⊎ (eqb a 13 ≡ true) → (eqb b 10 ≡ true) ⊎ (eqb b 13 ≡ true) → IsLineEnd (a ∷ b ∷ [])
+    by_bytes (inl x) (inl y) = absurd (grind (arith, nat_tests))
+    by_bytes (inl x) (inr y) = inr (inr (inl (ap (λ c. c ∷ b ∷ []) (eqb-true a 10 x) ∙ ap (λ c. 10 ∷ c ∷ []) (eqb-true b 13 y))))
+    by_bytes (inr x) (inl y) = inr (inr (inr (ap (λ c. c ∷ b ∷ []) (eqb-true a 13 x) ∙ ap (λ c. 13 ∷ c ∷ []) (eqb-true b 10 y))))
+    by_bytes (inr x) (inr y) = absurd (grind (arith, nat_tests))
+
+line_end_pair : (a b : ℕ) → IsLineEnd (a ∷ b ∷ []) → is_line_pair a b ≡ true
+line_end_pair a b (inl e) = absurd (omega (arith, ap length e))
+line_end_pair a b (inr (inl e)) = absurd (omega (arith, ap length e))
+line_end_pair a b (inr (inr (inl e))) = ap (λ t. is_line_pair (get_or t 0 0) (get_or t 1 0)) e
+line_end_pair a b (inr (inr (inr e))) = ap (λ t. is_line_pair (get_or t 0 0) (get_or t 1 0)) e
+
+-- the first n bytes are a line end, and no longer front is one
+record IsLongestLineEnd (text : List ℕ) (n : ℕ) : Type 0 where
+  pub within : n ≤ length text
+  pub spelled : IsLineEnd (take n text)
+  pub longest : (m : ℕ) → n < m → m ≤ length text → IsLineEnd (take m text) → ⊥
+
+line_size : (line pair : Bool) → line ≡ true → ◌≡◌ {A = ℕ} (cond line (cond pair 2 1) 0) (cond pair 2 1)
+line_size true pair h = refl
+line_size false pair h = absurd (false≢true h)
+
+longest_line_end : (text : List ℕ) → begins is_line_byte text ≡ true → IsLongestLineEnd text (line_end_length text)
+longest_line_end [] h = absurd (false≢true h)
+longest_line_end (b ∷ []) h =
+    let size : line_end_length (b ∷ []) ≡ 1 = rw h refl in
+    subst (IsLongestLineEnd (b ∷ [])) (sym size) (record { within = omega arith; spelled = lone_line_end b h; longest = λ m more within line. omega arith })
+longest_line_end (b ∷ c ∷ rest) h = by_pair (is_line_pair b c) refl
+  where
+    at_most : (m : ℕ) → m ≤ length (b ∷ c ∷ rest) → IsLineEnd (take m (b ∷ c ∷ rest)) → m ≤ 2
+    at_most m within line = omega (arith, (line_end_size (take m (b ∷ c ∷ rest)) line).1, length-take-le m (b ∷ c ∷ rest) within)
+
+    by_pair : (v : Bool) → is_line_pair b c ≡ v → IsLongestLineEnd (b ∷ c ∷ rest) (line_end_length (b ∷ c ∷ rest))
+    by_pair true pair =
+        let size : line_end_length (b ∷ c ∷ rest) ≡ 2 = line_size (is_line_byte b) (is_line_pair b c) h ∙ ap (λ v. cond v 2 1) pair in
+        subst (IsLongestLineEnd (b ∷ c ∷ rest)) (sym size) (record { within = omega arith; spelled = pair_line_end b c pair; longest = λ m more within line. omega (arith, at_most m within line) })
+    by_pair false lone =
+        let size : line_end_length (b ∷ c ∷ rest) ≡ 1 = line_size (is_line_byte b) (is_line_pair b c) h ∙ ap (λ v. cond v 2 1) lone in
+        subst (IsLongestLineEnd (b ∷ c ∷ rest)) (sym size) (record {
+          within = omega arith;
+          spelled = lone_line_end b h;
+          longest = λ m more within line.
+              let two : m ≡ 2 = omega (arith, at_most m within line) in
+              false≢true (sym lone ∙ line_end_pair b c (subst (λ i. IsLineEnd (take i (b ∷ c ∷ rest))) two line));
+        })
+
+pub line_end_first : (text : List ℕ) (n : ℕ) → group_of text ≡ Other → begins is_line_byte text ≡ true → n ≡ line_end_length text → IsFirst text LineEnd n
+line_end_first text n group first is =
+    let found : IsLongestLineEnd text n = subst (IsLongestLineEnd text) (sym is) (longest_line_end text first) in
+    plain_first text LineEnd n group refl (omega (arith, (line_end_size (take n text) found.spelled).0, length-take n text)) found.within found.spelled
+    (λ other m t more inside s. found.longest m more inside (line_spelled other (take m text) t s (begins_take is_line_byte text m (omega arith) ∙ first)))
+
+-- ---- signs
+
+pub sign_some : (s : Mark) → 0 < length (sign_spelling s)
 sign_some Plus = omega arith
 sign_some _ = omega arith
 
 pub sign_first : (text : List ℕ) (s : Mark) (n : ℕ) → group_of text ≡ Other → begins is_letter text ≡ false → begins is_blank text ≡ false → begins is_line_byte text ≡ false
-    → length (sign_spelling s) ≡ n → Begins text (sign_spelling s) → ((other : Mark) → n < length (sign_spelling other) → Begins text (sign_spelling other) → ⊥) → IsFirst text (Token (Sign s)) n
+    → length (sign_spelling s) ≡ n → StartsWith text (sign_spelling s) → ((other : Mark) → n < length (sign_spelling other) → StartsWith text (sign_spelling other) → ⊥) → IsFirst text (Token (Sign s)) n
 sign_first text s n group letter blank line len is longest =
     plain_first text (Token (Sign s)) n group refl (omega (arith, sign_some s)) (omega (arith, ap length is, length-take (length (sign_spelling s)) text))
     (sym is ∙ ap (λ i. take i text) len)
@@ -182,7 +247,7 @@ sign_first text s n group letter blank line len is longest =
     longest found.0 (omega arith) (ap (λ i. take i text) size ∙ sym found.1))
 
 -- where no sign begins the text either, it has no first piece
-pub none_first : (text : List ℕ) → group_of text ≡ Other → begins is_letter text ≡ false → begins is_blank text ≡ false → begins is_line_byte text ≡ false → ((s : Mark) → Begins text (sign_spelling s) → ⊥) → HasNone text
+pub none_first : (text : List ℕ) → group_of text ≡ Other → begins is_letter text ≡ false → begins is_blank text ≡ false → begins is_line_byte text ≡ false → ((s : Mark) → StartsWith text (sign_spelling s) → ⊥) → HasNone text
 none_first text group letter blank line none kind n h =
     let found = sign_spelled kind (take n text) (ap (λ g. is_tried g kind) (sym group) ∙ h.tried) h.spelled (begins_take is_letter text n h.some ∙ letter) (begins_take is_blank text n h.some ∙ blank) (begins_take is_line_byte text n h.some ∙ line) in
     let size : length (sign_spelling found.0) ≡ n = ap length found.1 ∙ length-take-le n text h.within in

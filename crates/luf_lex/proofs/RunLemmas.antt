@@ -3,7 +3,7 @@ use Rattle.std.proofs.Common.{◌≡◌, ℕ, zero, suc, ◌+◌, ◌-◌, ◌<�
 use Rattle.std.specs.List.{list_all, prefix_len}
 use Rattle.std.proofs.lemmas.Bool.{and_parts, and_from, cond-true}
 use Rattle.std.proofs.Math.Seq.{take-length}
-use Rattle.luf_lex.specs.Byte.{begins}
+use Rattle.luf_byte.specs.Front.{begins}
 
 -- a front that passes is within the longest one
 passing_cons : (p : ℕ → Bool) (b : ℕ) (text : List ℕ) (m : ℕ) → (list_all p (take m text) ≡ true → m ≤ prefix_len p text) → (p b && list_all p (take m text)) ≡ true → suc m ≤ cond (p b) (1 + prefix_len p text) 0

@@ -1,7 +1,10 @@
 -- The cut of a source into pieces, and its lexical fault.
 use Rattle.std.specs.Prelude.{◌≡◌, ℕ, ◌+◌, ◌-◌, ◌<◌, ◌≤◌, ◌==◌, List, [], ◌∷◌, ◌++◌, length, drop, if◌then◌else◌, nat_eq}
 use Rattle.std.specs.List.{prefix_len, starts_with}
-use Rattle.luf_lex.specs.Byte.{in_line, begins}
+use Rattle.std.specs.Str.{byte}
+use Rattle.luf_byte.specs.Class.{in_line}
+use Rattle.luf_byte.specs.Front.{begins}
+use Rattle.luf_lex.specs.Spelling.{byte_order_mark}
 use Rattle.luf_lex.specs.First.{IsFirst, IsFault}
 use Rattle.luf_lex.specs.declared.fault.LexWhat.{LexWhat}
 use Rattle.luf_lex.specs.declared.fault.LexErr.{LexErr}
@@ -11,11 +14,11 @@ use Rattle.luf_lex.specs.declared.token.Piece.{Piece}
 
 -- how many bytes the byte order mark has that a source begins with
 abbrev pub mark_length : List ℕ → ℕ
-mark_length source = if starts_with nat_eq source (0xEF ∷ 0xBB ∷ 0xBF ∷ []) then 3 else 0
+mark_length source = if starts_with nat_eq source byte_order_mark then length byte_order_mark else 0
 
 -- how many bytes a first line has that begins with `#`
 abbrev pub hash_length : List ℕ → ℕ
-hash_length text = if begins (λ b. b == 35) text then prefix_len in_line text else 0
+hash_length text = if begins (λ b. b == byte "#") text then prefix_len in_line text else 0
 
 -- where the pieces begin that may stand anywhere
 abbrev pub head_end : List ℕ → ℕ

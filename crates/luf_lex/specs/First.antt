@@ -1,34 +1,31 @@
 -- The first piece of a text, and why a text has none.
-use Rattle.std.specs.Prelude.{◌≡◌, ◌≢◌, ℕ, ◌+◌, ◌<◌, ◌≤◌, ◌⊎◌, Bool, true, false, ◌==◌, ◌&&◌, ◌||◌, List, [], ◌∷◌, ◌++◌, length, take, drop, if◌then◌else◌, IsTrue}
-use Rattle.luf_num.specs.Digit.{is_digit, is_hex_digit}
+use Rattle.std.specs.Prelude.{◌≡◌, ◌≢◌, ℕ, ◌+◌, ◌<◌, ◌≤◌, Bool, true, false, ◌==◌, ◌&&◌, ◌||◌, List, [], ◌∷◌, ◌++◌, length, take, drop, codes, if◌then◌else◌, IsTrue}
+use Rattle.std.specs.Str.{byte}
+use Rattle.luf_byte.specs.Class.{is_digit, is_hex_digit, is_letter}
 use Rattle.luf_num.specs.Numeral.{is_decimal_mark, is_binary_mark, HasNumeralForm}
-use Rattle.luf_str.specs.Bytes.{is_quote, is_line_byte}
-use Rattle.luf_str.specs.Escape.{NoEscape}
-use Rattle.luf_str.specs.Spelling.{IsLongSpelling}
-use Rattle.luf_str.specs.Value.{Part, AreParts, spelling_of}
-use Rattle.luf_lex.specs.Byte.{is_letter, begins}
-use Rattle.luf_lex.specs.Spelling.{Spells, IsLongComment, opens_long}
+use Rattle.luf_str.specs.Bytes.{is_quote}
+use Rattle.luf_str.specs.ShortEnd.{IsShortEnd}
+use Rattle.luf_str.specs.declared.ends.ShortEnd.TheVariants as end
+use Rattle.luf_byte.specs.Front.{begins}
+use Rattle.luf_lex.specs.Spelling.{Spells, IsLongComment}
+use Rattle.luf_str.specs.LongEnd.{opens_long, IsOpenLong}
+use Rattle.luf_lex.specs.declared.group.Group.{Group}
+use Rattle.luf_lex.specs.declared.group.Group.TheVariants.{Quoted, Bracketed, Commented, Numeric, Other}
 use Rattle.luf_lex.specs.declared.fault.LexWhat.{LexWhat}
 use Rattle.luf_lex.specs.declared.fault.LexWhat.TheVariants.{NoToken, BadNumeral, BadEscape, OpenString, OpenLong}
 use Rattle.luf_lex.specs.declared.token.Tok.TheVariants.{Name, Number, Short, Long, Word, Sign}
 use Rattle.luf_lex.specs.declared.token.Kind.{Kind}
 use Rattle.luf_lex.specs.declared.token.Kind.TheVariants.{Token, Comment, Blank, LineEnd}
 
--- What is tried at a place. Where a short string, a long bracket, a comment or a numeral begins, nothing else is.
-pub data Group : Type 0 where
-  Quoted : Group
-  Bracketed : Group
-  Commented : Group
-  Numeric : Group
-  Other : Group
-
+-- two dashes
 abbrev pub begins_comment : List ℕ → Bool
-begins_comment text = begins (λ b. b == 45) text && begins (λ b. b == 45) (drop 1 text)
+begins_comment text = begins (λ b. b == byte "-") text && begins (λ b. b == byte "-") (drop 1 text)
 
 -- a digit, or a point and a digit
 abbrev pub begins_numeral : List ℕ → Bool
-begins_numeral text = begins is_digit text || (begins (λ b. b == 46) text && begins is_digit (drop 1 text))
+begins_numeral text = begins is_digit text || (begins (λ b. b == byte ".") text && begins is_digit (drop 1 text))
 
+-- What is tried at a place. Where a short string, a long bracket, a comment or a numeral begins, nothing else is.
 abbrev pub group_of : List ℕ → Group
 group_of text =
     if begins is_quote text then Quoted
@@ -54,15 +51,15 @@ is_tried _ _ = false
 -- exponent, each with a sign where one follows; and then one letter or `_`, with which it has no numeral form.
 abbrev pub numeral_tail : (ℕ → Bool) → List ℕ → ℕ
 numeral_tail mark [] = 0
-numeral_tail mark (b ∷ []) = if is_hex_digit b || (b == 46 || is_letter b) then 1 else 0
+numeral_tail mark (b ∷ []) = if is_hex_digit b || (b == byte "." || is_letter b) then 1 else 0
 numeral_tail mark (b ∷ c ∷ rest) =
-    if mark b && (c == 43 || c == 45) then 2 + numeral_tail mark rest
-    else if mark b || (is_hex_digit b || b == 46) then 1 + numeral_tail mark (c ∷ rest)
+    if mark b && (c == byte "+" || c == byte "-") then 2 + numeral_tail mark rest
+    else if mark b || (is_hex_digit b || b == byte ".") then 1 + numeral_tail mark (c ∷ rest)
     else if is_letter b then 1 else 0
 
 -- whether a text begins with `0x` or `0X`
 abbrev pub begins_hexadecimal : List ℕ → Bool
-begins_hexadecimal text = begins (λ b. b == 48) text && begins (λ b. b == 120 || b == 88) (drop 1 text)
+begins_hexadecimal text = begins (λ b. b == byte "0") text && begins (λ b. b == byte "x" || b == byte "X") (drop 1 text)
 
 -- how many bytes the numeral has that a text begins with
 abbrev pub numeral_length : List ℕ → ℕ
@@ -76,23 +73,15 @@ numeral_length text =
 pub record IsFirst (text : List ℕ) (kind : Kind) (n : ℕ) : Type 0 where
   pub some : 0 < n
   pub within : n ≤ length text
-  pub tried : is_tried (group_of text) kind ≡ true
+  pub tried : IsTrue (is_tried (group_of text) kind)
   pub spelled : Spells kind (take n text)
-  pub longest : group_of text ≢ Numeric → (other : Kind) (m : ℕ) → is_tried (group_of text) other ≡ true → n < m → m ≤ length text → Spells other (take m text) → ⊥
+  pub longest : group_of text ≢ Numeric → (other : Kind) (m : ℕ) → IsTrue (is_tried (group_of text) other) → n < m → m ≤ length text → Spells other (take m text) → ⊥
   pub numeral : group_of text ≡ Numeric → n ≡ numeral_length text
-  pub long : group_of text ≡ Commented → opens_long (drop 2 text) ≡ true → IsLongComment (take n text)
+  pub long : group_of text ≡ Commented → IsTrue (opens_long (drop 2 text)) → IsLongComment (take n text)
 
 -- no piece begins the text
 abbrev pub HasNone : List ℕ → Type 0
 HasNone text = (kind : Kind) (n : ℕ) → IsFirst text kind n → ⊥
-
--- the text begins with a long bracket, and no front of it is a long string
-abbrev pub IsOpenLong : List ℕ → Type 0
-IsOpenLong text = (opens_long text ≡ true) × ((n : ℕ) → IsLongSpelling (take n text) → ⊥)
-
--- The inside of a string that stays open: the text's end, a line end, or a lone backslash at the text's end.
-abbrev pub IsOpenEnd : List ℕ → Type 0
-IsOpenEnd rest = (rest ≡ []) ⊎ (rest ≡ 92 ∷ []) ⊎ (begins is_line_byte rest ≡ true)
 
 -- Why a text has no first piece.
 pub data IsFault : List ℕ → LexWhat → Type 0 where
@@ -100,9 +89,9 @@ pub data IsFault : List ℕ → LexWhat → Type 0 where
   no_token : (text : List ℕ) → group_of text ≡ Other → HasNone text → IsFault text NoToken
   -- what was scanned has not the form of a numeral
   bad_numeral : (text : List ℕ) → group_of text ≡ Numeric → (HasNumeralForm (take (numeral_length text) text) → ⊥) → IsFault text BadNumeral
-  -- after a quote and parts of a string comes a backslash that begins no escape, or one that is cut
-  bad_escape : (q : ℕ) (parts : List Part) (next : List ℕ) → IsTrue (is_quote q) → AreParts q parts (92 ∷ next) → next ≢ [] → NoEscape next → IsFault (q ∷ (spelling_of parts ++ 92 ∷ next)) BadEscape
-  -- after a quote and parts of a string it stays open
-  open_string : (q : ℕ) (parts : List Part) (rest : List ℕ) → IsTrue (is_quote q) → AreParts q parts rest → IsOpenEnd rest → IsFault (q ∷ (spelling_of parts ++ rest)) OpenString
+  -- the string in quotes has a bad escape before its end
+  bad_escape : (text : List ℕ) (at : ℕ) → IsShortEnd text (end.Bad at) → IsFault text BadEscape
+  -- it stays open
+  open_string : (text : List ℕ) → IsShortEnd text end.Open → IsFault text OpenString
   open_long : (text : List ℕ) → IsOpenLong text → IsFault text OpenLong
-  open_comment : (rest : List ℕ) → IsOpenLong rest → IsFault (45 ∷ 45 ∷ rest) OpenLong
+  open_comment : (rest : List ℕ) → IsOpenLong rest → IsFault (codes "--" ++ rest) OpenLong

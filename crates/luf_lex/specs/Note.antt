@@ -11,9 +11,9 @@ abbrev pub is_comment : Kind → Bool
 is_comment Comment = true
 is_comment _ = false
 
-abbrev pub is_space : Kind → Bool
-is_space Blank = true
-is_space _ = false
+abbrev pub is_blank_kind : Kind → Bool
+is_blank_kind Blank = true
+is_blank_kind _ = false
 
 abbrev pub is_line_end : Kind → Bool
 is_line_end LineEnd = true
@@ -30,7 +30,7 @@ at_line_start before = list_all (λ p. not (is_content p.kind)) (take_while (λ 
 
 -- whether only blanks stand before the first line end of these pieces, or to their end where there is none
 abbrev pub at_line_end : List Piece → Bool
-at_line_end after = list_all (λ p. is_space p.kind) (take_while (λ p. not (is_line_end p.kind)) after)
+at_line_end after = list_all (λ p. is_blank_kind p.kind) (take_while (λ p. not (is_line_end p.kind)) after)
 
 -- the pieces after the last token and the last comment
 abbrev pub last_gap : List Piece → List Piece

@@ -38,6 +38,6 @@ sign_spelling Dot = codes "."
 sign_spelling DotDot = codes ".."
 sign_spelling Dots = codes "..."
 
--- whether a text begins with these bytes
-abbrev pub Begins : List ℕ → List ℕ → Type 0
-Begins text front = take (length front) text ≡ front
+-- the text begins with these bytes
+abbrev pub StartsWith : List ℕ → List ℕ → Type 0
+StartsWith text front = take (length front) text ≡ front

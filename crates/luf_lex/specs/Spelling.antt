@@ -1,10 +1,14 @@
 -- How a piece of each kind may be spelled: a test of a whole piece (Lua 5.4 manual, 3.1).
-use Rattle.std.specs.Prelude.{◌≡◌, ℕ, ◌⊎◌, Bool, true, false, ◌==◌, ◌&&◌, List, [], ◌∷◌, drop}
-use Rattle.std.specs.List.{list_all, prefix_len}
+use Rattle.std.specs.Prelude.{◌≡◌, ℕ, ◌⊎◌, Bool, ◌==◌, List, [], ◌∷◌, ◌++◌, codes, IsTrue, IsFalse}
+use Rattle.std.specs.List.{list_all}
+use Rattle.std.specs.Str.{byte}
 use Rattle.luf_num.specs.Numeral.{HasNumeralForm}
 use Rattle.luf_str.specs.Spelling.{IsLongSpelling}
+use Rattle.luf_str.specs.LongEnd.{opens_long}
 use Rattle.luf_str.specs.Value.{IsShortValue}
-use Rattle.luf_lex.specs.Byte.{is_letter, is_word_byte, is_blank, in_line, begins}
+use Rattle.luf_byte.specs.Class.{is_letter, is_word_byte, is_blank, in_line}
+use Rattle.luf_byte.specs.Front.{begins}
+use Rattle.luf_byte.specs.LineEnd.{IsLineEnd}
 use Rattle.luf_lex.specs.Word.{word_spelling}
 use Rattle.luf_lex.specs.Sign.{sign_spelling}
 use Rattle.luf_lex.specs.declared.token.Word.{Word as Keyword}
@@ -14,8 +18,8 @@ use Rattle.luf_lex.specs.declared.token.Kind.TheVariants.{Token, Comment, Blank,
 
 -- letters and digits that begin with a letter, and are no keyword
 pub record IsName (text : List ℕ) : Type 0 where
-  pub first : begins is_letter text ≡ true
-  pub each : list_all is_word_byte text ≡ true
+  pub first : IsTrue (begins is_letter text)
+  pub each : IsTrue (list_all is_word_byte text)
   pub no_keyword : (w : Keyword) → word_spelling w ≡ text → ⊥
 
 -- a string in quotes, in which each backslash begins an escape
@@ -24,35 +28,30 @@ IsShortString text = (value : List ℕ) × IsShortValue text value
 
 -- one or more bytes, each of which passes the test
 pub record IsRun (test : ℕ → Bool) (text : List ℕ) : Type 0 where
-  pub first : begins test text ≡ true
-  pub each : list_all test text ≡ true
-
--- LF, CR, LF CR or CR LF
-abbrev pub IsLineEnd : List ℕ → Type 0
-IsLineEnd text = (text ≡ 10 ∷ []) ⊎ (text ≡ 13 ∷ []) ⊎ (text ≡ 10 ∷ 13 ∷ []) ⊎ (text ≡ 13 ∷ 10 ∷ [])
-
--- whether a text begins with a long bracket: `[`, any number of `=`, and `[`
-abbrev pub opens_long : List ℕ → Bool
-opens_long [] = false
-opens_long (b ∷ rest) = b == 91 && begins (λ c. c == 91) (drop (prefix_len (λ c. c == 61) rest) rest)
+  pub first : IsTrue (begins test text)
+  pub each : IsTrue (list_all test text)
 
 -- `--` and then no long bracket, and no line end
 pub record IsShortComment (text : List ℕ) : Type 0 where
   pub rest : List ℕ
-  pub spelled : text ≡ 45 ∷ 45 ∷ rest
-  pub plain : opens_long rest ≡ false
-  pub each : list_all in_line rest ≡ true
+  pub spelled : text ≡ codes "--" ++ rest
+  pub plain : IsFalse (opens_long rest)
+  pub each : IsTrue (list_all in_line rest)
 
 -- `--` directly followed by a long bracket, up to the bracket that closes it
 pub record IsLongComment (text : List ℕ) : Type 0 where
   pub rest : List ℕ
-  pub spelled : text ≡ 45 ∷ 45 ∷ rest
+  pub spelled : text ≡ codes "--" ++ rest
   pub long : IsLongSpelling rest
 
 -- `#`, and then no line end
 pub record IsHashLine (text : List ℕ) : Type 0 where
-  pub first : begins (λ b. b == 35) text ≡ true
-  pub each : list_all in_line text ≡ true
+  pub first : IsTrue (begins (λ b. b == byte "#") text)
+  pub each : IsTrue (list_all in_line text)
+
+-- the byte order mark of UTF-8
+abbrev pub byte_order_mark : List ℕ
+byte_order_mark = 0xEF ∷ 0xBB ∷ 0xBF ∷ []
 
 -- the spellings of each kind
 abbrev pub Spells : Kind → List ℕ → Type 0
@@ -66,4 +65,4 @@ Spells Comment text = IsShortComment text ⊎ IsLongComment text
 Spells Blank text = IsRun is_blank text
 Spells LineEnd text = IsLineEnd text
 Spells HashLine text = IsHashLine text
-Spells Mark text = text ≡ 0xEF ∷ 0xBB ∷ 0xBF ∷ []
+Spells Mark text = text ≡ byte_order_mark

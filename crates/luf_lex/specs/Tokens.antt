@@ -1,5 +1,5 @@
 -- The tokens of a cut, numbered from 0.
-use Rattle.std.specs.Prelude.{◌≡◌, ℕ, ◌+◌, ◌≤◌, Bool, true, false, Option, Some, None, List, [], ◌∷◌, ◌++◌, if◌then◌else◌, length, map, slice_range}
+use Rattle.std.specs.Prelude.{ℕ, ◌+◌, Bool, true, false, Option, Some, None, List, [], ◌∷◌, ◌++◌, if◌then◌else◌, map, slice_range}
 use Rattle.std.specs.Option.{option_to_list}
 use Rattle.luf_lex.specs.declared.token.Kind.{Kind}
 use Rattle.luf_lex.specs.declared.token.Kind.TheVariants.{Token}
@@ -38,8 +38,3 @@ spellings_of source pieces = map (λ p. slice_range source p.span.from p.span.to
 abbrev pub token_places : ℕ → List Piece → List ℕ
 token_places at [] = []
 token_places at (p ∷ pieces) = if is_token p.kind then at ∷ token_places (at + 1) pieces else token_places (at + 1) pieces
-
--- an index of the tokens of these pieces
-pub record IsIndex (tokens : List ℕ) (pieces : List Piece) : Type 0 where
-  pub places : tokens ≡ token_places 0 pieces
-  pub few : length pieces ≤ 16777216

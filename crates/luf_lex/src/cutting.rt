@@ -1,7 +1,7 @@
 // The cut of a source into pieces.
 ghost use Rattle.std.specs.Prelude.{◌≡◌, ◌<◌, ◌≤◌, ◌^◌, [], length, IfOk, IfErr, OnOk};
 ghost use Rattle.std.specs.List.{prefix_len};
-ghost use Rattle.luf_lex.specs.Byte.{in_line};
+ghost use Rattle.luf_byte.specs.Class.{in_line};
 ghost use Rattle.luf_lex.specs.Cut.{IsCut, IsCause, head_of, head_end, mark_length, hash_length};
 
 use crate::first::first;
@@ -74,7 +74,7 @@ fn push_head(src: &[u8], pieces: &mut Vec<Piece>) -> Result<usize, Memory>
 }
 
 /// Where a mark and a `#` line at the start of a source end.
-pub(crate) fn head_len(src: &[u8]) -> usize
+fn head_len(src: &[u8]) -> usize
     ensures end { result ≡ head_end src.now }
     ensures within { result ≤ length src.now }
 {

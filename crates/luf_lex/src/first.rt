@@ -3,7 +3,7 @@ ghost use Rattle.std.specs.Prelude.{◌≡◌, ◌<◌, length, MatchResult};
 ghost use Rattle.luf_lex.specs.First.{IsFirst, IsFault};
 
 use crate::comment::comment;
-use crate::group::{Tried, group_at};
+use crate::group::{Group, group_at};
 use crate::numeral::numeral;
 use crate::plain::plain;
 use crate::string::{long_string, short_string};
@@ -15,11 +15,11 @@ pub(crate) fn first(text: &[u8]) -> Result<(Kind, usize), LexWhat>
     ensures { MatchResult result (λ piece. IsFirst text.now piece.0 piece.1) (λ what. IsFault text.now what) }
 {
     match group_at(text) {
-        Tried::ShortString => of_kind(Kind::Token(Tok::Short), short_string(text)),
-        Tried::LongString => of_kind(Kind::Token(Tok::Long), long_string(text)),
-        Tried::Comment => of_kind(Kind::Comment, comment(text)),
-        Tried::Numeral => of_kind(Kind::Token(Tok::Number), numeral(text)),
-        Tried::Other => match plain(text) {
+        Group::Quoted => of_kind(Kind::Token(Tok::Short), short_string(text)),
+        Group::Bracketed => of_kind(Kind::Token(Tok::Long), long_string(text)),
+        Group::Commented => of_kind(Kind::Comment, comment(text)),
+        Group::Numeric => of_kind(Kind::Token(Tok::Number), numeral(text)),
+        Group::Other => match plain(text) {
             Some(piece) => Ok(piece),
             None => Err(LexWhat::NoToken),
         },

@@ -2,40 +2,39 @@
 ghost use Rattle.std.specs.Prelude.{◌≡◌};
 ghost use Rattle.luf_lex.specs.First as first;
 ghost use Rattle.luf_str.specs.Bytes.{is_quote};
-ghost use Rattle.luf_lex.specs.Byte.{begins};
-ghost use Rattle.luf_lex.specs.Group.{group_named};
+ghost use Rattle.luf_byte.specs.Front.{begins};
 
-use crate::bracket::opens_long;
-use crate::byte::is_digit;
+use luf_byte::is_digit;
+use luf_str::opens_long;
 
 /// What is tried at a place of a source: where a short string, a long bracket, a comment or a numeral begins,
-/// nothing else is.
+/// nothing else is. The definition of the first piece is told by it.
 #[derive(Clone, Copy, Debug, PartialEq, Eq)]
-pub(crate) enum Tried {
-    ShortString,
-    LongString,
-    Comment,
-    Numeral,
+pub enum Group {
+    Quoted,
+    Bracketed,
+    Commented,
+    Numeric,
     Other,
 }
 
 /// What is tried where a text begins.
-pub(crate) fn group_at(text: &[u8]) -> Tried
-    ensures { first.group_of text.now ≡ group_named result }
+pub(crate) fn group_at(text: &[u8]) -> Group
+    ensures { result ≡ first.group_of text.now }
 {
     if begins_string(text) {
-        return Tried::ShortString;
+        return Group::Quoted;
     }
     if opens_long(text) {
-        return Tried::LongString;
+        return Group::Bracketed;
     }
     if begins_comment(text) {
-        return Tried::Comment;
+        return Group::Commented;
     }
     if begins_numeral(text) {
-        return Tried::Numeral;
+        return Group::Numeric;
     }
-    Tried::Other
+    Group::Other
 }
 
 fn begins_string(text: &[u8]) -> bool

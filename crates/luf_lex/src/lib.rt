@@ -1,8 +1,6 @@
 //! The pieces of a source: its tokens and what lies between them, each with its place.
 #![tactic(auto)]
 
-mod bracket;
-mod byte;
 mod comment;
 mod cutting;
 mod fault;
@@ -15,14 +13,13 @@ mod pieces;
 mod plain;
 mod sign;
 mod string;
-#[cfg(test)]
-mod tests;
 mod token;
 mod word;
 
 pub use cutting::cut;
 pub use fault::{LexErr, LexWhat};
-pub use laws::{cut_or_fault, joined, lexical_fault, one_cut, one_fault};
+pub use group::Group;
+pub use laws::{joined, one_cut, one_fault, one_of_cut_and_fault, spelled};
 pub use luf_text::Span;
 pub use note::Note;
 pub use pieces::Cut;

@@ -1,7 +1,7 @@
 // The comments between the tokens of a source, with an index, and the empty lines before them.
 ghost use Rattle.std.specs.Prelude.{◌≡◌, ◌+◌, ◌<◌, ◌≤◌, length, IfOk};
 ghost use Rattle.luf_lex.specs.Note as notes;
-ghost use Rattle.luf_lex.specs.Leads.{stretch, IsRising, IsLeadIndex};
+ghost use Rattle.luf_lex.specs.inner.Leads.{notes_at, IsRising, IsLeadIndex};
 
 use crate::{Kind, Piece, Span};
 use luf_memory::Memory;
@@ -54,7 +54,7 @@ impl Leads {
     pub(crate) fn get(&self, n: usize) -> &[Note]
         requires rising { IsRising (length self.now.notes.items) self.now.bounds.items }
         requires within { n + 1 < length self.now.bounds.items }
-        ensures { result.now ≡ stretch self.now.notes.items self.now.bounds.items n }
+        ensures { result.now ≡ notes_at self.now.notes.items self.now.bounds.items n }
     {
         let from = self.bounds[n] as usize;
         let to = self.bounds[n + 1] as usize;
@@ -93,7 +93,7 @@ fn at_line_end(after: &[Piece]) -> bool
     after
         .iter()
         .take_while(|piece| !piece.kind.is_line_end())
-        .all(|piece| piece.kind.is_space())
+        .all(|piece| piece.kind.is_blank())
 }
 
 /// Whether an empty line ends these pieces: whether two line ends or more stand in their last gap.

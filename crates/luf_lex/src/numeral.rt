@@ -1,11 +1,13 @@
 // Numerals.
 ghost use Rattle.std.specs.Prelude.{◌≡◌, ◌<◌, ◌≤◌, ◌-◌, if◌then◌else◌, IsTrue, MatchResult, length};
-ghost use Rattle.luf_num.specs.Digit as digit;
-ghost use Rattle.luf_lex.specs.Byte.{is_letter, begins};
-ghost use Rattle.luf_lex.specs.First.{IsFirst, IsFault, group_of, Numeric, numeral_tail, numeral_length};
-ghost use Rattle.luf_lex.specs.Scan.{mark_of, step_of};
+ghost use Rattle.luf_byte.specs.Class as class;
+ghost use Rattle.luf_byte.specs.Front.{begins};
+ghost use Rattle.luf_lex.specs.First.{IsFirst, IsFault, group_of, numeral_tail, numeral_length};
+ghost use Rattle.luf_lex.specs.declared.group.Group.TheVariants.{Numeric};
+ghost use Rattle.luf_lex.specs.inner.Scan.{mark_of, step_of};
 
-use crate::{Kind, LexWhat, Tok, byte};
+use crate::{Kind, LexWhat, Tok};
+use luf_byte::{is_hex_digit, is_letter};
 use luf_num::number_of;
 
 /// The length of the numeral that a text begins with, all of what the scan takes; or that it has not the form
@@ -35,7 +37,7 @@ fn scan(text: &[u8]) -> usize
 
 /// How far the scan goes on, where the marks of an exponent are this letter and its capital.
 fn tail(text: &[u8], lower: u8) -> usize
-    requires { IsTrue (is_letter lower) × IsTrue (is_letter (lower - 32)) }
+    requires { IsTrue (class.is_letter lower) × IsTrue (class.is_letter (lower - 32)) }
     ensures whole { result ≡ numeral_tail (mark_of lower) text.now }
     ensures within { result ≤ length text.now }
 {
@@ -51,11 +53,11 @@ fn tail(text: &[u8], lower: u8) -> usize
 
 /// One, where a text begins with a letter.
 fn letter(text: &[u8]) -> usize
-    ensures one { result ≡ (if begins is_letter text.now then 1 else 0) }
+    ensures one { result ≡ (if begins class.is_letter text.now then 1 else 0) }
     ensures within { result ≤ length text.now }
 {
     match text {
-        [b, ..] if byte::is_letter(*b) => 1,
+        [b, ..] if is_letter(*b) => 1,
         _ => 0,
     }
 }
@@ -78,10 +80,4 @@ fn is_mark(b: u8, lower: u8) -> bool
     ensures { result ≡ mark_of lower b }
 {
     b == lower || b == lower - 32
-}
-
-fn is_hex_digit(b: u8) -> bool
-    ensures { result ≡ digit.is_hex_digit b }
-{
-    b.is_ascii_hexdigit()
 }

@@ -2,18 +2,16 @@
 ghost use Rattle.std.specs.Prelude.{◌≡◌, ◌≤◌, ◌↔◌, length, slice_get, slice_index_or, IfOk, IsTrue};
 ghost use Rattle.std.specs.Option.{option_copied};
 ghost use Rattle.luf_lex.specs.Cut.{IsCut};
-ghost use Rattle.luf_lex.specs.Leads.{IsLeadIndex};
+ghost use Rattle.luf_lex.specs.inner.Leads.{IsLeadIndex};
 ghost use Rattle.luf_lex.specs.Note.{lead_of, blank_of};
-ghost use Rattle.luf_lex.specs.Tokens.{toks_of, spans_of, spellings_of, tokens_of, token_places, IsIndex};
+ghost use Rattle.luf_lex.specs.Tokens.{toks_of, spans_of, spellings_of, tokens_of, token_places};
+ghost use Rattle.luf_lex.specs.inner.TokenIndex.{IsTokenIndex};
 
 use crate::note::{Leads, has_empty_line};
 use crate::{Kind, Note, Piece, Span, Tok};
 use luf_memory::Memory;
 use std::alloc::Global;
 use std::marker::Model;
-
-#[cfg(test)]
-mod tests;
 
 /// The pieces of a source, in order. A contract sees it as their list.
 #[derive(Debug, Drop)]
@@ -30,12 +28,12 @@ impl Model for Cut {
 
     ghost Value = { List Piece };
 
-    ghost use Rattle.luf_lex.specs.Leads.{IsLeadIndex};
-    ghost use Rattle.luf_lex.specs.Tokens.{IsIndex};
+    ghost use Rattle.luf_lex.specs.inner.Leads.{IsLeadIndex};
+    ghost use Rattle.luf_lex.specs.inner.TokenIndex.{IsTokenIndex};
 
     ghost view = { λ c. c.pieces.items };
 
-    ghost invariant = { λ c. (IsIndex c.tokens.items c.pieces.items) × IsLeadIndex c.leads.notes.items c.leads.bounds.items c.pieces.items };
+    ghost invariant = { λ c. (IsTokenIndex c.tokens.items c.pieces.items) × IsLeadIndex c.leads.notes.items c.leads.bounds.items c.pieces.items };
 }
 
 impl Cut {

@@ -1,14 +1,15 @@
 // Names, keywords, signs, blanks and line ends: the pieces that stand for nothing more than their bytes.
-ghost use Rattle.std.specs.Prelude.{◌≡◌, ◌<◌, ◌≤◌, ℕ, true, length, take, MatchOption};
-ghost use Rattle.luf_str.specs.Bytes as bytes;
-ghost use Rattle.luf_lex.specs.Byte as byte;
-ghost use Rattle.luf_lex.specs.First.{IsFirst, HasNone, group_of, Other};
-ghost use Rattle.luf_lex.specs.Spelling.{IsLineEnd};
+ghost use Rattle.std.specs.Prelude.{◌≡◌, ◌<◌, ◌≤◌, true, length, MatchOption};
+ghost use Rattle.std.specs.List.{prefix_len};
+ghost use Rattle.luf_byte.specs.Class as class;
+ghost use Rattle.luf_byte.specs.Front.{begins};
+ghost use Rattle.luf_lex.specs.First.{IsFirst, HasNone, group_of};
+ghost use Rattle.luf_lex.specs.declared.group.Group.TheVariants.{Other};
 
-use crate::byte::{blank_run, is_blank, is_letter, is_line_byte, word_run};
 use crate::sign::sign;
 use crate::word::keyword;
 use crate::{Kind, Tok};
+use luf_byte::{is_blank, is_letter, is_line_byte, is_word_byte, line_end_length};
 
 /// The first piece of a text where neither a string, a comment nor a numeral begins, if it has one.
 pub(crate) fn plain(text: &[u8]) -> Option<(Kind, usize)>
@@ -24,7 +25,7 @@ pub(crate) fn plain(text: &[u8]) -> Option<(Kind, usize)>
         return Some((Kind::Blank, blank_run(text)));
     }
     if is_line_byte(b) {
-        return Some((Kind::LineEnd, line_end(text)));
+        return Some((Kind::LineEnd, line_end_length(text)));
     }
     match sign(text) {
         Some((sign, len)) => Some((Kind::Token(Tok::Sign(sign)), len)),
@@ -34,7 +35,7 @@ pub(crate) fn plain(text: &[u8]) -> Option<(Kind, usize)>
 
 /// A name or a keyword.
 fn word(text: &[u8]) -> (Kind, usize)
-    requires letter { byte.begins byte.is_letter text.now ≡ true }
+    requires letter { begins class.is_letter text.now ≡ true }
     requires other { group_of text.now ≡ Other }
     ensures { IsFirst text.now result.0 result.1 }
 {
@@ -46,15 +47,17 @@ fn word(text: &[u8]) -> (Kind, usize)
     (Kind::Token(tok), len)
 }
 
-/// The length of the longest line end that a text begins with.
-fn line_end(text: &[u8]) -> usize
-    requires { byte.begins bytes.is_line_byte text.now ≡ true }
-    ensures within { result ≤ length text.now }
-    ensures spelled { IsLineEnd (take result text.now) }
-    ensures longest { (m : ℕ) → result < m → m ≤ length text.now → IsLineEnd (take m text.now) → ⊥ }
+/// How many letters and digits a text begins with.
+fn word_run(text: &[u8]) -> usize
+    ensures count { result ≡ prefix_len class.is_word_byte text.now }
+    ensures bound { result ≤ length text.now }
 {
-    match text {
-        [b'\n', b'\r', ..] | [b'\r', b'\n', ..] => 2,
-        _ => 1,
-    }
+    text.iter().take_while(|b| is_word_byte(**b)).count()
+}
+
+/// How many blanks a text begins with.
+fn blank_run(text: &[u8]) -> usize
+    ensures { result ≡ prefix_len class.is_blank text.now }
+{
+    text.iter().take_while(|b| is_blank(**b)).count()
 }

@@ -1,13 +1,13 @@
 // The signs.
 ghost use Rattle.std.specs.Prelude.{◌≡◌, ◌<◌, length, take, MatchOption};
-ghost use Rattle.luf_lex.specs.Sign.{sign_spelling, Begins};
+ghost use Rattle.luf_lex.specs.Sign.{sign_spelling, StartsWith};
 
 use crate::Sign;
 
 /// The longest sign that a text begins with, and its length.
 pub(crate) fn sign(text: &[u8]) -> Option<(Sign, usize)>
-    ensures { MatchOption result ((s : Sign) → Begins text.now (sign_spelling s) → ⊥)
-        (λ found. (length (sign_spelling found.0) ≡ found.1) × Begins text.now (sign_spelling found.0) × ((s : Sign) → found.1 < length (sign_spelling s) → Begins text.now (sign_spelling s) → ⊥)) }
+    ensures { MatchOption result ((s : Sign) → StartsWith text.now (sign_spelling s) → ⊥)
+        (λ found. (length (sign_spelling found.0) ≡ found.1) × StartsWith text.now (sign_spelling found.0) × ((s : Sign) → found.1 < length (sign_spelling s) → StartsWith text.now (sign_spelling s) → ⊥)) }
 {
     match text {
         [b'.', b'.', b'.', ..] => Some((Sign::Dots, 3)),

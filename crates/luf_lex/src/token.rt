@@ -118,8 +118,8 @@ impl Kind {
         matches!(self, Kind::Token(_) | Kind::Comment)
     }
 
-    pub(crate) fn is_space(self) -> bool
-        ensures { result ≡ notes.is_space self }
+    pub(crate) fn is_blank(self) -> bool
+        ensures { result ≡ notes.is_blank_kind self }
     {
         matches!(self, Kind::Blank)
     }

@@ -4,7 +4,7 @@ use Rattle.std.specs.List.{list_all}
 use Rattle.std.proofs.lemmas.Bool.{and_parts, and_from}
 use Rattle.std.proofs.lemmas.List.Folds.{list_all-append}
 use Rattle.std.proofs.lemmas.Bool.Decides.{nat_tests}
-use Rattle.luf_num.specs.Digit.{is_digit, is_hex_digit}
+use Rattle.luf_byte.specs.Class.{is_digit, is_hex_digit}
 use Rattle.luf_num.specs.Numeral.{IsHexPrefix, is_decimal_mark, is_binary_mark, IsOptionalSign, IsExponent, HasFloatForm, IsDecimal, IsHexRest, IsHexadecimal, IsNumber, HasNumeralForm}
 use Rattle.luf_num.specs.declared.Number.{Number}
 use Rattle.luf_num.specs.declared.Number.TheVariants.{Int, Float}
@@ -84,7 +84,7 @@ no_exponent_in_digits digit mark no_mark s all scaled = ⊎_elim (λ e. e)
     let no = no_mark e.letter e.marked in cc) scaled
 
 -- the prefix is the first two bytes
-prefix_taken : (s prefix rest : List ℕ) → s ≡ prefix ++ rest → IsHexPrefix prefix → IsHexPrefix (take 2 s)
+pub prefix_taken : (s prefix rest : List ℕ) → s ≡ prefix ++ rest → IsHexPrefix prefix → IsHexPrefix (take 2 s)
 prefix_taken s prefix rest spelled prefixed = ⊎_elim
     (λ e. inl (rw spelled (rw e refl))) (λ e. inr (rw spelled (rw e refl))) prefixed
 
@@ -117,13 +117,13 @@ hex_rest_once s Float (Int n) hm hn =
 hex_rest_once s Float Float hm hn = refl
 
 -- no spelling is decimal and hexadecimal
-pub decimal_or_hexadecimal : (s : List ℕ) (m n : Number) → IsDecimal s m → IsHexadecimal s n → ⊥
-decimal_or_hexadecimal s m n hm hn = x_in_hexadecimal s hn.prefix hn.rest hn.spelled hn.prefixed (no_x_in_decimal s m hm)
+pub decimal_excludes_hexadecimal : (s : List ℕ) (m n : Number) → IsDecimal s m → IsHexadecimal s n → ⊥
+decimal_excludes_hexadecimal s m n hm hn = x_in_hexadecimal s hn.prefix hn.rest hn.spelled hn.prefixed (no_x_in_decimal s m hm)
 
 pub number_once : (s : List ℕ) (m n : Number) → IsNumber s m → IsNumber s n → m ≡ n
 number_once s m n hm hn = ⊎_elim
-    (λ dm. ⊎_elim (λ dn. decimal_once s m n dm dn) (λ xn. absurd (decimal_or_hexadecimal s m n dm xn)) hn)
-    (λ xm. ⊎_elim (λ dn. absurd (decimal_or_hexadecimal s n m dn xm))
+    (λ dm. ⊎_elim (λ dn. decimal_once s m n dm dn) (λ xn. absurd (decimal_excludes_hexadecimal s m n dm xn)) hn)
+    (λ xm. ⊎_elim (λ dn. absurd (decimal_excludes_hexadecimal s n m dn xm))
     (λ xn. let same : xm.rest ≡ xn.rest = sym (hex_rest s xm.prefix xm.rest xm.spelled xm.prefixed) ∙ hex_rest s xn.prefix xn.rest xn.spelled xn.prefixed in
     hex_rest_once xn.rest m n (subst (λ rest. IsHexRest rest m) same xm.number) xn.number) hn) hm
 

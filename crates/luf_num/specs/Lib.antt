@@ -1,5 +1,5 @@
--- Digits, bases and numerals, and the parts into which a spelling is cut.
-pub mod Base
-pub mod Digit
+-- Numerals, floats and their words. What a reader has to believe stands in Numeral, Float and Word; inner is for private functions.
+pub mod Float
 pub mod Numeral
-pub mod Parts
+pub mod Word
+pub mod inner

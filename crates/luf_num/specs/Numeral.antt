@@ -3,7 +3,9 @@
 use Rattle.std.specs.Prelude.{◌≡◌, ℕ, ℤ, pos, ◌%◌, ◌^◌, ◌<◌, ◌≤◌, Bool, ◌||◌, ◌==◌, ◌⊎◌, List, [], ◌∷◌, ◌++◌, length, IsTrue, codes}
 use Rattle.std.specs.Int.{cast_signed, w64}
 use Rattle.std.specs.List.{list_all}
-use Rattle.luf_num.specs.Digit.{is_digit, is_hex_digit, value_in}
+use Rattle.std.specs.Str.{byte}
+use Rattle.std.specs.Str.Parse.{digits_value}
+use Rattle.luf_byte.specs.Class.{is_digit, is_hex_digit}
 use Rattle.luf_num.specs.declared.Number.{Number}
 use Rattle.luf_num.specs.declared.Number.TheVariants.{Int, Float}
 
@@ -18,10 +20,14 @@ IsHexPrefix s = (s ≡ codes "0x") ⊎ (s ≡ codes "0X")
 
 -- the marks of a decimal exponent, `e` and `E`, and of a binary one, `p` and `P`
 abbrev pub is_decimal_mark : ℕ → Bool
-is_decimal_mark byte = byte == 101 || byte == 69
+is_decimal_mark b = b == byte "e" || b == byte "E"
 
 abbrev pub is_binary_mark : ℕ → Bool
-is_binary_mark byte = byte == 112 || byte == 80
+is_binary_mark b = b == byte "p" || b == byte "P"
+
+-- `+` or `-`
+abbrev pub is_sign : ℕ → Bool
+is_sign b = b == byte "+" || b == byte "-"
 
 -- nothing, `+` or `-`
 abbrev pub IsOptionalSign : List ℕ → Type 0
@@ -52,18 +58,18 @@ pub record HasFloatForm (digit mark : ℕ → Bool) (s : List ℕ) : Type 0 wher
 -- a decimal integer below 2 ^ 63, which is an integer of 64 bits
 pub record IsDecimalInteger (s : List ℕ) (n : ℤ) : Type 0 where
   pub digits : IsDigits is_digit s
-  pub small : value_in 10 s < 2 ^ 63
-  pub value : n ≡ pos (value_in 10 s)
+  pub small : digits_value 10 s < 2 ^ 63
+  pub value : n ≡ pos (digits_value 10 s)
 
 -- a decimal integer from 2 ^ 63 on, which is a float
 pub record IsLargeInteger (s : List ℕ) : Type 0 where
   pub digits : IsDigits is_digit s
-  pub large : 2 ^ 63 ≤ value_in 10 s
+  pub large : 2 ^ 63 ≤ digits_value 10 s
 
 -- what follows the prefix of a hexadecimal integer, which wraps modulo 2 ^ 64 and is read as a signed number of 64 bits
 pub record IsHexInteger (s : List ℕ) (n : ℤ) : Type 0 where
   pub digits : IsDigits is_hex_digit s
-  pub value : n ≡ cast_signed w64 (value_in 16 s % 2 ^ 64)
+  pub value : n ≡ cast_signed w64 (digits_value 16 s % 2 ^ 64)
 
 -- a decimal numeral, and its number
 abbrev pub IsDecimal : List ℕ → Number → Type 0

@@ -1,10 +1,13 @@
 //! Whether a spelling has the form of a numeral in a base.
-ghost use Rattle.std.specs.Prelude.{◌≡◌, ◌↔◌, ◌⊎◌, ◌<◌, ◌≤◌, [], ◌∷◌, ◌++◌, length, take, drop, IsTrue};
+ghost use Rattle.std.specs.Prelude.{◌≡◌, ◌↔◌, ◌⊎◌, ◌<◌, ◌≤◌, [], ◌∷◌, ◌++◌, length, take, drop, IsTrue, IfSome, IfNone};
 ghost use Rattle.std.specs.List.{list_all, prefix_len};
-ghost use Rattle.luf_num.specs.Base.{is_digit_in, is_mark_in};
-ghost use Rattle.luf_num.specs.Digit.{is_digit};
-ghost use Rattle.luf_num.specs.Numeral.{IsDigits, IsExponent, HasFloatForm};
-ghost use Rattle.luf_num.specs.Parts.{SplitsWhile, SplitsFirst, is_point, is_sign};
+ghost use Rattle.luf_num.specs.inner.Base.{is_digit_in, is_mark_in, radix_of, places_of, digits_limit_of};
+ghost use Rattle.luf_byte.specs.Class.{is_digit};
+ghost use Rattle.luf_num.specs.Numeral.{IsDigits, IsExponent, IsHexPrefix, HasFloatForm, is_sign};
+ghost use Rattle.luf_num.specs.inner.FloatParts.{HasParts};
+ghost use Rattle.luf_num.specs.inner.Parts.{SplitsWhile, SplitsFirst, is_point};
+
+use luf_byte::{is_digit, is_hex_digit};
 
 /// The base of a numeral's digits. It also says which letter marks the exponent.
 #[derive(Clone, Copy)]
@@ -19,8 +22,38 @@ impl Base {
         ensures { result ≡ is_digit_in self byte }
     {
         match self {
-            Base::Decimal => byte.is_ascii_digit(),
-            Base::Hexadecimal => byte.is_ascii_hexdigit(),
+            Base::Decimal => is_digit(byte),
+            Base::Hexadecimal => is_hex_digit(byte),
+        }
+    }
+
+    /// How many digits the base has.
+    pub fn radix(self) -> u128
+        ensures { result ≡ radix_of self }
+    {
+        match self {
+            Base::Decimal => 10,
+            Base::Hexadecimal => 16,
+        }
+    }
+
+    /// How many places a digit behind the point is worth, as an exponent counts them.
+    pub fn places(self) -> u128
+        ensures { result ≡ places_of self }
+    {
+        match self {
+            Base::Decimal => 1,
+            Base::Hexadecimal => 4,
+        }
+    }
+
+    /// The digits of a float in reach are below this.
+    pub fn digits_limit(self) -> u128
+        ensures { result ≡ digits_limit_of self }
+    {
+        match self {
+            Base::Decimal => 1 << 64,
+            Base::Hexadecimal => 1 << 53,
         }
     }
 
@@ -33,6 +66,13 @@ impl Base {
             Base::Hexadecimal => byte == b'p' || byte == b'P',
         }
     }
+}
+
+/// Whether the spelling begins with `0x` or `0X`.
+pub fn has_hex_prefix(spelling: &[u8]) -> bool
+    ensures { IsTrue result ↔ IsHexPrefix (take 2 spelling.now) }
+{
+    spelling.starts_with(b"0x") || spelling.starts_with(b"0X")
 }
 
 /// Whether each of the bytes is a digit of the base.
@@ -79,7 +119,7 @@ fn split_point(bytes: &[u8]) -> (&[u8], &[u8])
 }
 
 /// The sign that the bytes begin with, if one stands there, and the bytes after it.
-fn split_sign(bytes: &[u8]) -> (&[u8], &[u8])
+pub fn split_sign(bytes: &[u8]) -> (&[u8], &[u8])
     ensures { SplitsFirst is_sign bytes.now result.0.now result.1.now }
 {
     match bytes.first() {
@@ -115,15 +155,39 @@ fn has_byte(a: &[u8], b: &[u8]) -> bool
     !a.is_empty() || !b.is_empty()
 }
 
-/// Whether the bytes are a numeral of the base with a point or an exponent.
-pub fn has_float_form(base: Base, bytes: &[u8]) -> bool
-    ensures { IsTrue result ↔ HasFloatForm (is_digit_in base) (is_mark_in base) bytes.now }
+/// A numeral with a point or an exponent: the digits before and behind its point, and its exponent.
+#[derive(Clone, Copy)]
+pub struct Parts<'a> {
+    pub whole: &'a [u8],
+    pub fraction: &'a [u8],
+    pub exponent: &'a [u8],
+}
+
+/// The parts of a numeral of the base with a point or an exponent, and `None` exactly where the bytes are none.
+pub fn float_parts(base: Base, bytes: &[u8]) -> Option<Parts<'_>>
+    ensures some { IfSome result (λ p. HasParts (is_digit_in base) (is_mark_in base) bytes.now p.whole.now p.fraction.now p.exponent.now) }
+    ensures none { IfNone result (HasFloatForm (is_digit_in base) (is_mark_in base) bytes.now → ⊥) }
 {
     let (whole, after_whole) = split_digits(base, bytes);
     let (point, after_point) = split_point(after_whole);
     let (fraction, exponent) = split_digits(base, after_point);
-    if !has_byte(whole, fraction) {
-        return false;
+    if has_byte(whole, fraction)
+        && has_byte(point, exponent)
+        && is_optional_exponent(base, exponent)
+    {
+        Some(Parts {
+            whole,
+            fraction,
+            exponent,
+        })
+    } else {
+        None
     }
-    has_byte(point, exponent) && is_optional_exponent(base, exponent)
+}
+
+/// Whether the bytes are a numeral of the base with a point or an exponent.
+pub fn has_float_form(base: Base, bytes: &[u8]) -> bool
+    ensures { IsTrue result ↔ HasFloatForm (is_digit_in base) (is_mark_in base) bytes.now }
+{
+    float_parts(base, bytes).is_some()
 }

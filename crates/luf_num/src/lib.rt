@@ -1,15 +1,16 @@
 //! Numerals of Lua 5.4: whether a spelling has numeral form, and the number that it stands for.
 #![tactic(auto)]
 
-ghost use Rattle.std.specs.Prelude.{◌≡◌, ℕ, List, IfSome, IfNone, IsSome, IsTrue, ◌↔◌, take};
-ghost use Rattle.luf_num.specs.Numeral.{HasNumeralForm, IsDecimal, IsHexPrefix, IsHexRest, IsNumber};
+ghost use Rattle.std.specs.Prelude.{◌≡◌, ℕ, List, IfSome, IfNone, IsSome, ◌↔◌};
+ghost use Rattle.luf_num.specs.Numeral.{HasNumeralForm, IsDecimal, IsHexRest, IsNumber};
 
+mod float;
 mod form;
-#[cfg(test)]
-mod tests;
 mod value;
+mod word;
 
-use form::Base;
+pub use float::{float_word, one_float_word};
+use form::{Base, has_hex_prefix};
 
 /// What a numeral stands for: an integer of 64 bits, or a float, whose value is not looked at here.
 #[derive(Clone, Copy, Debug, PartialEq, Eq)]
@@ -32,13 +33,6 @@ pub fn number_of(spelling: &[u8]) -> Option<Number>
     } else {
         decimal(spelling)
     }
-}
-
-/// Whether the spelling begins with `0x` or `0X`.
-fn has_hex_prefix(spelling: &[u8]) -> bool
-    ensures { IsTrue result ↔ IsHexPrefix (take 2 spelling.now) }
-{
-    spelling.starts_with(b"0x") || spelling.starts_with(b"0X")
 }
 
 /// The number of a decimal numeral.

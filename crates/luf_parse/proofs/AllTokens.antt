@@ -5,12 +5,11 @@ use Rattle.luf_lex.specs.declared.token.Tok.{Tok}
 use Rattle.luf_tree.specs.declared.tree.Block.{Block, out-Block}
 use Rattle.luf_tree.specs.declared.tree.Chunk.{Chunk}
 use Rattle.luf_tree.specs.Grammar.{IsBlock, IsChunk}
-use Rattle.luf_tree.specs.Level.{depth_of}
-use Rattle.luf_parse.specs.Cause.{HasNoTree, IsCause}
-use Rattle.luf_parse.specs.Exact.{Alone, Refutes}
-use Rattle.luf_parse.specs.Follow.{ends_block, EndsBlock}
-use Rattle.luf_parse.specs.Parts.{ReadBlock}
-use Rattle.luf_parse.specs.Reads.{IsRefusal}
+use Rattle.luf_tree.specs.Level.{depth_of, level_limit}
+use Rattle.luf_parse.specs.Cause.{HasNoTree, OfToken, IsCause}
+use Rattle.luf_parse.specs.inner.Exact.{Alone, Refutes}
+use Rattle.luf_parse.specs.inner.Follow.{ends_block, EndsBlock}
+use Rattle.luf_parse.specs.inner.Parts.{ReadBlock}
 use Rattle.luf_parse.specs.declared.error.ParseErr.{ParseErr}
 use Rattle.luf_parse.specs.declared.error.ParseErr.TheVariants as error
 use Rattle.luf_parse.proofs.Ends.{block_to}
@@ -27,16 +26,16 @@ chunk_read {toks} c tree depth = record {
   level = depth;
 }
 
-cause : {toks : List Tok} (e : ParseErr) → IsRefusal toks e → ((e ≡ error.Memory → ⊥) → HasNoTree toks) → IsCause toks e
+cause : {toks : List Tok} (e : ParseErr) → OfToken (λ token. token ≤ length toks) e → ((e ≡ error.Memory → ⊥) → HasNoTree toks) → IsCause toks e
 cause (error.Syntax t) within none = (within, none (λ z. cc))
 cause (error.TooDeep t) within none = (within, none (λ z. cc))
 cause error.Memory within none = tt
 
 -- the block of all tokens is refuted
-pub refused_cause : {toks : List Tok} {e : ParseErr} → IsRefusal toks e → Refutes (ReadBlock toks 200 0) e → IsCause toks e
-refused_cause {toks} {e} within none = cause e within (λ known c tree depth. none.nothing known c.block (chunk_read c tree depth))
+pub refused_cause : {toks : List Tok} {e : ParseErr} → Refutes toks (ReadBlock toks level_limit 0) e → IsCause toks e
+refused_cause {toks} {e} none = cause e none.token (λ known c tree depth. none.nothing known c.block (chunk_read c tree depth))
 
 -- the one block that there is does not have all tokens
-pub short_cause : {toks : List Tok} {b : Block} (e : ParseErr) → IsRefusal toks e → Alone (ReadBlock toks 200 0) b → ((out-Block b).to ≡ length toks → ⊥) → IsCause toks e
+pub short_cause : {toks : List Tok} {b : Block} (e : ParseErr) → OfToken (λ token. token ≤ length toks) e → Alone (ReadBlock toks level_limit 0) b → ((out-Block b).to ≡ length toks → ⊥) → IsCause toks e
 short_cause {toks} {b} e within only short =
     cause e within (λ known c tree depth. short (ap (λ (z : Block). (out-Block z).to) (sym (only c.block (chunk_read c tree depth))) ∙ block_to tree))

@@ -16,7 +16,8 @@ use Rattle.luf_tree.specs.First.{starts_expr}
 use Rattle.luf_tree.specs.Grammar as g
 use Rattle.luf_tree.specs.Grammar.{At, IsToken, IsString, IsExpr, AreSteps, IsOperand, IsSimple, IsPrefix, IsVariable, IsCall, IsParen, IsHead, AreSuffixes, IsSuffix, IsArgs, AreExprs, IsTable, IsField}
 use Rattle.luf_tree.proofs.TokenLaws.{expr_starts}
-use Rattle.luf_parse.specs.Reads.{level_of, level_at, token_begins_suffix, begins_suffix}
+use Rattle.luf_parse.specs.inner.Reads.{token_begins_suffix, begins_suffix}
+use Rattle.luf_parse.specs.inner.Follow.{precedence_of, precedence_at}
 use Rattle.luf_parse.proofs.Following.{not_at}
 
 -- no token stands behind the last
@@ -106,9 +107,9 @@ suffixes_begin (g.one_suffix d) = suffix_begins d
 suffixes_begin (g.more_suffixes d _) = suffix_begins d
 
 -- steps begin with an operator of their level
-pub steps_begin : {toks : List Tok} {m i j : ℕ} {steps : List Step} → AreSteps toks m i j steps → level_at toks i ≡ m
-steps_begin (g.one_step t level _) = ap level_of t.there ∙ level
-steps_begin (g.more_steps t level _ _) = ap level_of t.there ∙ level
+pub steps_begin : {toks : List Tok} {m i j : ℕ} {steps : List Step} → AreSteps toks m i j steps → precedence_at toks i ≡ m
+steps_begin (g.one_step t level _) = ap precedence_of t.there ∙ level
+steps_begin (g.more_steps t level _ _) = ap precedence_of t.there ∙ level
 
 pub exprs_start : {toks : List Tok} {i j : ℕ} {es : List Expr} → AreExprs toks i j es → starts_expr (slice_get toks i) ≡ true
 exprs_start (g.one_expr d) = expr_starts d
@@ -151,4 +152,4 @@ operand_name_end n equal (g.simple_operand d) = simple_name_end n equal d
 pub expr_name_end : {toks : List Tok} {m i j after : ℕ} {e : Expr} → IsToken toks i tok.Name after → At toks after (tok.Sign sign.Assign) → IsExpr toks m i j e → j ≡ after
 expr_name_end n equal (g.operand_expr d) = operand_name_end n equal d
 expr_name_end {toks} {after = after} n equal (g.chain_expr {m} low _ d steps) =
-    let level = subst (λ (p : ℕ). level_at toks p ≡ m) (expr_name_end n equal d) (steps_begin steps) in let none = ap level_of equal in absurd (omega arith)
+    let level = subst (λ (p : ℕ). precedence_at toks p ≡ m) (expr_name_end n equal d) (steps_begin steps) in let none = ap precedence_of equal in absurd (omega arith)

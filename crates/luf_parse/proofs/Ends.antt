@@ -11,9 +11,9 @@ use Rattle.luf_tree.specs.declared.tree.Args.{Args, out-Args}
 use Rattle.luf_tree.specs.Grammar as g
 use Rattle.luf_tree.specs.Grammar.{IsToken, IsExpr, IsOperand, IsSimple, IsPrefix, IsVariable, IsCall, IsParen, IsHead, IsArgs, IsFuncBody, IsBlock, IsReturn, IsStat}
 use Rattle.luf_tree.specs.Level.{expr_levels, args_levels, body_levels}
-use Rattle.luf_parse.specs.Follow.{continues_prefix, EndsOperand, EndsExpr}
-use Rattle.luf_parse.specs.Parts.{ReadExpr, ReadOperand, ReadSimple, ReadArgs, ReadFuncBody}
-use Rattle.luf_parse.specs.Shapes.{IsShaped}
+use Rattle.luf_parse.specs.inner.Follow.{continues_prefix, EndsOperand, EndsExpr}
+use Rattle.luf_parse.specs.inner.Parts.{ReadExpr, ReadOperand, ReadSimple, ReadArgs, ReadFuncBody}
+use Rattle.luf_parse.specs.inner.Shapes.{IsShaped}
 use Rattle.luf_parse.specs.declared.prefixes.Shape.{Shape}
 use Rattle.luf_parse.specs.declared.prefixes.Shape.TheVariants as shape
 

@@ -21,11 +21,11 @@ use Rattle.luf_tree.specs.Level.{deepest, expr_levels, field_levels, suffix_leve
 use Rattle.luf_tree.specs.Grammar as g
 use Rattle.luf_tree.specs.Grammar.{At, expression, IsToken, IsString, IsExpr, AreSteps, IsOperand, IsSimple, IsPrefix, IsVariable, IsCall, IsParen, IsHead, AreSuffixes, IsSuffix, IsArgs, AreExprs, IsTable, AreFields, IsField}
 use Rattle.luf_tree.proofs.LevelEquations as lv
-use Rattle.luf_parse.specs.Exact.{Then, Enters}
-use Rattle.luf_parse.specs.Follow.{NotAt, NotAssigned, NotString, IsSeparator, continues_prefix, EndsOperand, EndsExpr, EndsExprs, EndsField, ends_field}
-use Rattle.luf_parse.specs.Parts.{ReadExpr, ReadSteps, ReadChain, ReadOperand, ReadSimple, ReadUnary, ReadExponent, ReadPower, ReadFunction, ReadTable, ReadTableExpr, ReadFields, ReadField, ReadKeyed, ReadExprs, ReadPrefix, ReadHead, ReadParen, ReadSuffixes, ReadSuffix, ReadArgs, list_args, ReadListArgs, ReadLoneArg}
-use Rattle.luf_parse.specs.Reads.{begins_suffix, level_at}
-use Rattle.luf_parse.specs.Shapes.{IsShaped, suffixed_shape, lone_args, leaf_kind}
+use Rattle.luf_parse.specs.inner.Exact.{Then, Enters}
+use Rattle.luf_parse.specs.inner.Follow.{NotAt, NotAssigned, NotString, IsSeparator, continues_prefix, EndsOperand, EndsExpr, EndsExprs, EndsField, ends_field, precedence_at}
+use Rattle.luf_parse.specs.inner.Parts.{ReadExpr, ReadSteps, ReadChain, ReadOperand, ReadSimple, ReadUnary, ReadExponent, ReadPower, ReadFunction, ReadTable, ReadTableExpr, ReadFields, ReadField, ReadKeyed, ReadExprs, ReadPrefix, ReadHead, ReadParen, ReadSuffixes, ReadSuffix, ReadArgs, list_args, ReadListArgs, ReadLoneArg}
+use Rattle.luf_parse.specs.inner.Reads.{begins_suffix}
+use Rattle.luf_parse.specs.inner.Shapes.{IsShaped, suffixed_shape, lone_args, leaf_kind}
 use Rattle.luf_parse.specs.declared.prefixes.PrefixExpr.{PrefixExpr}
 use Rattle.luf_parse.specs.declared.prefixes.Shape.{Shape}
 use Rattle.luf_parse.specs.declared.prefixes.Shape.TheVariants.{Variable, Call, Paren}
@@ -634,20 +634,20 @@ lone_table {toks} {left} {i} other e h = form _ _ h.is refl
 
 -- the steps of a chain, the first of whose operators stands at i
 abbrev pub StepsForm : List Tok → ℕ → ℕ → ℕ → ℕ → (List Step × ℕ) → Type 0
-StepsForm toks level left i next = Then (ReadExpr toks (level + 1) left next) (λ e. ListRest (λ n. (level_at toks (out-Expr e).to ≡ level) × (n ≡ (out-Expr e).to)) (λ n. ReadSteps toks level left n) (roll-Step (record { sign = i; right = e })) (out-Expr e).to)
+StepsForm toks level left i next = Then (ReadExpr toks (level + 1) left next) (λ e. ListRest (λ n. (precedence_at toks (out-Expr e).to ≡ level) × (n ≡ (out-Expr e).to)) (λ n. ReadSteps toks level left n) (roll-Step (record { sign = i; right = e })) (out-Expr e).to)
 
 pub steps_form : {toks : List Tok} {level left i next : ℕ} {tok : Tok} → 0 < level → IsToken toks i tok next → (r : List Step × ℕ) → ReadSteps toks level left i r → StepsForm toks level left i next r
 steps_form {toks} {level} {left} {i} {next} {tok} low t r h = form r.0 r.1 h.is h.ends h.level
   where
     form : (steps : List Step) (j : ℕ) → AreSteps toks level i j steps → EndsExpr toks level j → deepest (map step_levels steps) ≤ left → StepsForm toks level left i next (steps, j)
     form _ j (g.one_step {e = e} t2 known d) ends levels =
-        let low = ends.level in
+        let low = ends.precedence in
         subst (λ (p : ℕ). StepsForm toks level left i p (roll-Step (record { sign = i; right = e }) ∷ [], j)) (same_end t2 t)
         (record {
           part = e;
-          first = read_expr d (record { level = omega arith; operand = ends.operand }) (omega (arith, levels, lv.step_of_levels i e));
+          first = read_expr d (record { precedence = omega arith; operand = ends.operand }) (omega (arith, levels, lv.step_of_levels i e));
           rest = record {
-            more = λ n sep. let same = subst (λ (p : ℕ). level_at toks p ≡ level) (expr_to d) sep.0 in absurd (omega arith);
+            more = λ n sep. let same = subst (λ (p : ℕ). precedence_at toks p ≡ level) (expr_to d) sep.0 in absurd (omega arith);
             last = λ none. ap (λ (p : ℕ). (roll-Step (record { sign = i; right = e }) ∷ [], p)) (sym (expr_to d));
           };
         })
@@ -656,18 +656,18 @@ steps_form {toks} {level} {left} {i} {next} {tok} low t r h = form r.0 r.1 h.is 
         subst (λ (p : ℕ). StepsForm toks level left i p (roll-Step (record { sign = i; right = e }) ∷ others, j)) (same_end t2 t)
         (record {
           part = e;
-          first = read_expr d (record { level = omega arith; operand = binary_ends_operand (omega arith) }) (omega (arith, levels, lv.step_of_levels i e));
+          first = read_expr d (record { precedence = omega arith; operand = binary_ends_operand (omega arith) }) (omega (arith, levels, lv.step_of_levels i e));
           rest = record {
             more = λ n sep. ((others, j), subst (λ (p : ℕ). ReadSteps toks level left p (others, j)) (sym (expr_to d) ∙ sym sep.1) (record { is = rest; ends = ends; level = omega (arith, levels) }), refl);
-            last = λ none. absurd (none _ (subst (λ (p : ℕ). level_at toks p ≡ level) (sym (expr_to d)) here, refl));
+            last = λ none. absurd (none _ (subst (λ (p : ℕ). precedence_at toks p ≡ level) (sym (expr_to d)) here, refl));
           };
         })
 
 -- An expression that begins with a whole one: it is that, or a chain whose first operand begins with it.
 pub data Grown (toks : List Tok) (left i : ℕ) (whole : Expr) : ℕ → Expr → Type 0 where
-  grown_whole : {least : ℕ} → level_at toks (out-Expr whole).to < least → Grown toks left i whole least whole
-  -- CHANGED: no chain of a level from the least on goes on behind the chain
-  grown_chain : {least level : ℕ} {first e : Expr} → 0 < level → least ≤ level → Grown toks left i whole (level + 1) first → ReadChain toks level left i first e → level_at toks (out-Expr e).to < least → Grown toks left i whole least e
+  grown_whole : {least : ℕ} → precedence_at toks (out-Expr whole).to < least → Grown toks left i whole least whole
+  -- no chain of a level from the least on goes on behind the chain
+  grown_chain : {least level : ℕ} {first e : Expr} → 0 < level → least ≤ level → Grown toks left i whole (level + 1) first → ReadChain toks level left i first e → precedence_at toks (out-Expr e).to < least → Grown toks left i whole least e
 
 abbrev pub OperandForm : List Tok → ℕ → ℕ → ℕ → Expr → Type 0
 OperandForm toks least left i = Then (ReadOperand toks left i) (λ whole e. Grown toks left i whole least e)
@@ -677,38 +677,38 @@ operand_form {toks} {least} {left} {i} e h = form least _ e h.is h.ends h.level
   where
     form : (n j : ℕ) (e : Expr) → IsExpr toks n i j e → EndsExpr toks n j → expr_levels e ≤ left → OperandForm toks n left i e
     form n j e (g.operand_expr d) ends level =
-        record { part = e; first = read_operand d ends.operand level; rest = grown_whole (subst (λ (p : ℕ). level_at toks p < n) (sym (operand_to d)) ends.level) }
+        record { part = e; first = read_operand d ends.operand level; rest = grown_whole (subst (λ (p : ℕ). precedence_at toks p < n) (sym (operand_to d)) ends.precedence) }
     form n j _ (g.chain_expr {m = m} {j = k} {first = first} {rest = steps} some above d rest) ends level =
         let here = steps_begin rest in
-        let low = ends.level in
-        let inner = form (m + 1) k first d (record { level = omega arith; operand = binary_ends_operand (omega arith) }) (omega (arith, lv.chain_levels i j first steps)) in
+        let low = ends.precedence in
+        let inner = form (m + 1) k first d (record { precedence = omega arith; operand = binary_ends_operand (omega arith) }) (omega (arith, lv.chain_levels i j first steps)) in
         record {
           part = inner.part;
           first = inner.first;
           rest = grown_chain some above inner.rest
               (record {
                 part = (steps, j);
-                first = record { is = subst (λ (p : ℕ). AreSteps toks m p j steps) (sym (expr_to d)) rest; ends = record { level = omega arith; operand = ends.operand }; level = omega (arith, lv.chain_levels i j first steps) };
+                first = record { is = subst (λ (p : ℕ). AreSteps toks m p j steps) (sym (expr_to d)) rest; ends = record { precedence = omega arith; operand = ends.operand }; level = omega (arith, lv.chain_levels i j first steps) };
                 rest = refl;
               }) low;
         }
 
-pub grown_end : {toks : List Tok} {least left i : ℕ} {whole : Expr} → level_at toks (out-Expr whole).to < least → (e : Expr) → Grown toks left i whole least e → e ≡ whole
+pub grown_end : {toks : List Tok} {least left i : ℕ} {whole : Expr} → precedence_at toks (out-Expr whole).to < least → (e : Expr) → Grown toks left i whole least e → e ≡ whole
 grown_end {toks} {least} {left} {i} {whole} low e h = ended least e h low
   where
-    ended : (n : ℕ) (e : Expr) → Grown toks left i whole n e → level_at toks (out-Expr whole).to < n → e ≡ whole
+    ended : (n : ℕ) (e : Expr) → Grown toks left i whole n e → precedence_at toks (out-Expr whole).to < n → e ≡ whole
     ended n _ (grown_whole _) low = refl
     ended n _ (grown_chain {level = m} {first = first} some above inner chain _) low =
         let same = ended (m + 1) first inner (omega arith) in
-        let here = subst (λ (x : Expr). level_at toks (out-Expr x).to ≡ m) same (steps_begin chain.first.is) in absurd (omega arith)
+        let here = subst (λ (x : Expr). precedence_at toks (out-Expr x).to ≡ m) same (steps_begin chain.first.is) in absurd (omega arith)
 
 abbrev pub GrownForm : List Tok → ℕ → ℕ → ℕ → Expr → ℕ → Expr → Type 0
 GrownForm toks level left i whole least = Then (ReadChain toks level left i whole) (λ longer e. Grown toks left i longer least e)
 
-pub grown_form : {toks : List Tok} {least level left i : ℕ} {whole : Expr} → level_at toks (out-Expr whole).to ≡ level → least ≤ level → (e : Expr) → Grown toks left i whole least e → GrownForm toks level left i whole least e
+pub grown_form : {toks : List Tok} {least level left i : ℕ} {whole : Expr} → precedence_at toks (out-Expr whole).to ≡ level → least ≤ level → (e : Expr) → Grown toks left i whole least e → GrownForm toks level left i whole least e
 grown_form {toks} {least} {level} {left} {i} {whole} next low e h = form least e h low
   where
-    step : (n m : ℕ) (first e : Expr) → 0 < m → n ≤ m → Grown toks left i whole (m + 1) first → ReadChain toks m left i first e → level_at toks (out-Expr e).to < n
+    step : (n m : ℕ) (first e : Expr) → 0 < m → n ≤ m → Grown toks left i whole (m + 1) first → ReadChain toks m left i first e → precedence_at toks (out-Expr e).to < n
         → (m + 1 ≤ level → GrownForm toks level left i whole (m + 1) first) → (m < level) ⊎ (level ≤ m) → GrownForm toks level left i whole n e
     step n m first e some above inner chain ends form (inl lower) = let f = form (omega arith) in record { part = f.part; first = f.first; rest = grown_chain some above f.rest chain ends }
     step n m first e some above inner chain ends form (inr higher) =
@@ -720,9 +720,3 @@ grown_form {toks} {least} {level} {left} {i} {whole} next low e h = form least e
     form : (n : ℕ) (e : Expr) → Grown toks left i whole n e → n ≤ level → GrownForm toks level left i whole n e
     form n _ (grown_whole ends) low = absurd (omega arith)
     form n e (grown_chain {level = m} {first = first} some above inner chain ends) low = step n m first e some above inner chain ends (λ h. form (m + 1) first inner h) (cases_lt m level)
-
--- the same prefix expression, made with a copy of its head and with the shape that was told
-pub made_prefix : {i j : ℕ} (calls : Bool) {told : Shape} {head copy : Expr} (suffixes : List Suffix) → told ≡ suffixed_shape calls → copy ≡ head
-    → ◌≡◌ {A = PrefixExpr} (record { shape = suffixed_shape calls; expr = expression i j (expr.Suffixed head suffixes) }) (record { shape = told; expr = expression i j (expr.Suffixed copy suffixes) })
-made_prefix {i} {j} calls {told} {head} {copy} suffixes t h =
-    ap (λ (s : Shape). record { shape = s; expr = expression i j (expr.Suffixed head suffixes) }) (sym t) ∙ ap (λ (e : Expr). record { shape = told; expr = expression i j (expr.Suffixed e suffixes) }) (sym h)

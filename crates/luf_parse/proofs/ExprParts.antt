@@ -17,39 +17,34 @@ use Rattle.luf_tree.specs.declared.tree.Suffix.TheVariants as suffix
 use Rattle.luf_tree.specs.declared.tree.Args.{Args, roll-Args, out-Args}
 use Rattle.luf_tree.specs.declared.tree.Field.{Field}
 use Rattle.luf_tree.specs.declared.tree.Field.TheVariants as field
-use Rattle.luf_tree.specs.Operator.{binary_level, is_unary}
+use Rattle.luf_tree.specs.Operator.{binary_precedence, is_unary}
 use Rattle.luf_tree.specs.Level.{deepest, expr_levels, block_levels, stat_levels, field_levels, suffix_levels, step_levels, args_levels, body_levels}
 use Rattle.luf_tree.specs.Grammar as g
-use Rattle.luf_tree.specs.Grammar.{expression, statement, IsToken, IsString, IsClosed, IsExpr, AreSteps, IsOperand, IsSimple, IsPrefix, IsVariable, IsCall, IsParen, IsHead, AreSuffixes, IsSuffix, IsArgs, AreExprs, IsTable, AreFields, IsField, IsFuncBody, IsBlock, AreStats, IsReturn, IsStat, AreTargets, IsArm, AreArms, IsElse, IsForStep, IsSemicolon, AreNames, AreParams, AreDeclared, IsPath, IsMethod}
+use Rattle.luf_tree.specs.Grammar.{expression, statement, IsToken, IsString, NoParenFollows, IsExpr, AreSteps, IsOperand, IsSimple, IsPrefix, IsVariable, IsCall, IsParen, IsHead, AreSuffixes, IsSuffix, IsArgs, AreExprs, IsTable, AreFields, IsField, IsFuncBody, IsBlock, AreStats, IsReturn, IsStat, AreTargets, IsArm, AreArms, IsElse, IsForStep, IsSemicolon, AreNames, AreParams, AreDeclared, IsPath, IsMethod}
 use Rattle.luf_tree.proofs.LevelEquations as lv
-use Rattle.luf_parse.specs.Reads.{Found, level_at, level_of}
-use Rattle.luf_parse.specs.Shapes.{IsShaped, suffixed_shape, lone_args}
+use Rattle.luf_parse.specs.inner.Reads.{Found}
+use Rattle.luf_parse.specs.inner.Follow.{precedence_at, precedence_of}
+use Rattle.luf_parse.specs.inner.Shapes.{IsShaped, suffixed_shape, lone_args}
 use Rattle.luf_parse.specs.declared.prefixes.Shape.{Shape}
 use Rattle.luf_parse.specs.declared.prefixes.Shape.TheVariants as shape
 
-pub unary_found : {toks : List Tok} {i j k left inner : ℕ} {tok : Tok} {e b : Expr}
+pub unary_found : {toks : List Tok} {i j k left inner : ℕ} {tok : Tok} {e : Expr}
     → IsToken toks i tok j
     → is_unary tok ≡ true
     → left ≡ inner + 1
     → Found toks (j + 1) k inner (expr_levels e) (IsOperand toks j k e)
-    → b ≡ e
-    → Found toks (i + 1) k left (expr_levels (expression i k (expr.Unary b))) (IsOperand toks i k (expression i k (expr.Unary b)))
-unary_found {toks} {i} {j} {k} {left} {inner} {tok} {e} {b} t u lev h eb =
-    subst (λ (z : Expr). Found toks (i + 1) k left (expr_levels (expression i k (expr.Unary z))) (IsOperand toks i k (expression i k (expr.Unary z)))) (sym eb)
-    (let next = t.next in record { derived = g.unary_operand t u h.derived; forward = omega arith; within = omega arith; level = omega (arith, lv.unary_levels i k e) })
+    → Found toks (i + 1) k left (expr_levels (expression i k (expr.Unary e))) (IsOperand toks i k (expression i k (expr.Unary e)))
+unary_found {toks} {i} {j} {k} {left} {inner} {tok} {e} t u lev h =
+    let next = t.next in record { derived = g.unary_operand t u h.derived; forward = omega arith; within = omega arith; level = omega (arith, lv.unary_levels i k e) }
 
-pub power_found : {toks : List Tok} {i j k l left inner : ℕ} {a b x y : Expr}
+pub power_found : {toks : List Tok} {i j k l left inner : ℕ} {a x : Expr}
     → Found toks (i + 1) j left (expr_levels a) (IsSimple toks i j a)
     → IsToken toks j (Sign sign.Caret) k
     → left ≡ inner + 1
     → Found toks (k + 1) l inner (expr_levels x) (IsOperand toks k l x)
-    → b ≡ a
-    → y ≡ x
-    → Found toks (i + 1) l left (expr_levels (expression i l (expr.Power b j y))) (IsOperand toks i l (expression i l (expr.Power b j y)))
-power_found {toks} {i} {j} {k} {l} {left} {inner} {a} {b} {x} {y} h t lev h2 eb ey =
-    subst (λ (z : Expr). Found toks (i + 1) l left (expr_levels (expression i l (expr.Power z j y))) (IsOperand toks i l (expression i l (expr.Power z j y)))) (sym eb)
-    (subst (λ (z : Expr). Found toks (i + 1) l left (expr_levels (expression i l (expr.Power a j z))) (IsOperand toks i l (expression i l (expr.Power a j z)))) (sym ey)
-    (let next = t.next in record { derived = g.power_operand h.derived t h2.derived; forward = omega arith; within = omega arith; level = omega (arith, lv.power_levels i l a j x) }))
+    → Found toks (i + 1) l left (expr_levels (expression i l (expr.Power a j x))) (IsOperand toks i l (expression i l (expr.Power a j x)))
+power_found {toks} {i} {j} {k} {l} {left} {inner} {a} {x} h t lev h2 =
+    let next = t.next in record { derived = g.power_operand h.derived t h2.derived; forward = omega arith; within = omega arith; level = omega (arith, lv.power_levels i l a j x) }
 
 pub simple_found : {toks : List Tok} {i j left : ℕ} {e : Expr}
     → Found toks (i + 1) j left (expr_levels e) (IsSimple toks i j e)
@@ -75,32 +70,28 @@ pub weaken_found : {toks : List Tok} {m n i j left : ℕ} {e : Expr}
 weaken_found {toks} {m} {n} {i} {j} {left} {e} le h =
     record { derived = weaken m le h.derived; forward = h.forward; within = h.within; level = h.level }
 
-pub chain_found : {toks : List Tok} {level i j k left : ℕ} {a b : Expr} {rest : List Step}
+pub chain_found : {toks : List Tok} {level i j k left : ℕ} {a : Expr} {rest : List Step}
     → 0 < level
     → Found toks (i + 1) j left (expr_levels a) (IsExpr toks (level + 1) i j a)
     → AreSteps toks level j k rest
     → j ≤ k
     → k ≤ length toks
     → deepest (map step_levels rest) ≤ left
-    → b ≡ a
-    → Found toks (i + 1) k left (expr_levels (expression i k (expr.Chain b rest))) (IsExpr toks level i k (expression i k (expr.Chain b rest)))
-chain_found {toks} {level} {i} {j} {k} {left} {a} {b} {rest} pos h d fw w ls eb =
-    subst (λ (z : Expr). Found toks (i + 1) k left (expr_levels (expression i k (expr.Chain z rest))) (IsExpr toks level i k (expression i k (expr.Chain z rest)))) (sym eb)
-    (record { derived = g.chain_expr pos (omega arith) h.derived d; forward = omega arith; within = omega arith; level = omega (arith, lv.chain_levels i k a rest) })
+    → Found toks (i + 1) k left (expr_levels (expression i k (expr.Chain a rest))) (IsExpr toks level i k (expression i k (expr.Chain a rest)))
+chain_found {toks} {level} {i} {j} {k} {left} {a} {rest} pos h d fw w ls =
+    record { derived = g.chain_expr pos (omega arith) h.derived d; forward = omega arith; within = omega arith; level = omega (arith, lv.chain_levels i k a rest) }
 
 -- no operator of a level stands at a place; so if one stood there, it was of another
-pub operator_at : {toks : List Tok} {i j : ℕ} {tok : Tok} (level : ℕ) → IsToken toks i tok j → level_at toks i ≡ level → binary_level tok ≡ level
-operator_at {i = i} {tok = tok} level t is = subst (λ (o : Option Tok). level_of o ≡ level) t.there is
+pub operator_at : {toks : List Tok} {i j : ℕ} {tok : Tok} (level : ℕ) → IsToken toks i tok j → precedence_at toks i ≡ level → binary_precedence tok ≡ level
+operator_at {i = i} {tok = tok} level t is = subst (λ (o : Option Tok). precedence_of o ≡ level) t.there is
 
-pub function_found : {toks : List Tok} {i j k left inner : ℕ} {f g2 : FuncBody}
+pub function_found : {toks : List Tok} {i j k left inner : ℕ} {f : FuncBody}
     → IsToken toks i (Word word.Function) j
     → left ≡ inner + 1
     → Found toks (j + 1) k inner (body_levels f) (IsFuncBody toks j k f)
-    → g2 ≡ f
-    → Found toks (i + 1) k left (expr_levels (expression i k (expr.Function g2))) (IsSimple toks i k (expression i k (expr.Function g2)))
-function_found {toks} {i} {j} {k} {left} {inner} {f} {g2} t lev h eg2 =
-    subst (λ (z : FuncBody). Found toks (i + 1) k left (expr_levels (expression i k (expr.Function z))) (IsSimple toks i k (expression i k (expr.Function z)))) (sym eg2)
-    (let next = t.next in record { derived = g.function_simple t h.derived; forward = omega arith; within = omega arith; level = omega (arith, lv.function_levels i k f) })
+    → Found toks (i + 1) k left (expr_levels (expression i k (expr.Function f))) (IsSimple toks i k (expression i k (expr.Function f)))
+function_found {toks} {i} {j} {k} {left} {inner} {f} t lev h =
+    let next = t.next in record { derived = g.function_simple t h.derived; forward = omega arith; within = omega arith; level = omega (arith, lv.function_levels i k f) }
 
 pub table_expr_found : {toks : List Tok} {i j left : ℕ} {fields : List Field}
     → Found toks (i + 1) j left (deepest (map field_levels fields) + 1) (IsTable toks i j fields)
@@ -118,16 +109,18 @@ pub table_found : {toks : List Tok} {i j k l left inner : ℕ} {fields : List Fi
 table_found {toks} {i} {j} {k} {l} {left} {inner} {fields} t lev h t2 w =
     let n = t.next in let n2 = t2.next in record { derived = g.table t h.derived t2; forward = omega arith; within = omega arith; level = omega arith }
 
-pub keyed_found : {toks : List Tok} {i j k l o p left inner : ℕ} {key value : Expr}
+pub keyed_found : {toks : List Tok} {i j k l o p left inner : ℕ} {key value : Expr} {box : Expr}
     → IsToken toks i (Sign sign.LeftBracket) j
     → left ≡ inner + 1
     → Found toks (j + 1) k inner (expr_levels key) (IsExpr toks 1 j k key)
     → IsToken toks k (Sign sign.RightBracket) l
     → IsToken toks l (Sign sign.Assign) o
     → Found toks (o + 1) p left (expr_levels value) (IsExpr toks 1 o p value)
-    → Found toks (i + 1) p left (field_levels (field.Keyed key value)) (IsField toks i p (field.Keyed key value))
-keyed_found {toks} {i} {j} {k} {l} {o} {p} {left} {inner} {key} {value} t lev h t2 t3 h2 =
-    let n = t.next in let n2 = t2.next in let n3 = t3.next in record { derived = g.keyed_field t h.derived t2 t3 h2.derived; forward = omega arith; within = omega arith; level = omega (arith, lv.keyed_levels key value) }
+    → box ≡ key
+    → Found toks (i + 1) p left (field_levels (field.Keyed box value)) (IsField toks i p (field.Keyed box value))
+keyed_found {toks} {i} {j} {k} {l} {o} {p} {left} {inner} {key} {value} {box} t lev h t2 t3 h2 e0 =
+    subst (λ (z : Expr). Found toks (i + 1) p left (field_levels (field.Keyed z value)) (IsField toks i p (field.Keyed z value))) (sym e0)
+    (let n = t.next in let n2 = t2.next in let n3 = t3.next in record { derived = g.keyed_field t h.derived t2 t3 h2.derived; forward = omega arith; within = omega arith; level = omega (arith, lv.keyed_levels key value) })
 
 pub named_found : {toks : List Tok} {i j k l left : ℕ} {value : Expr}
     → IsToken toks i Name j
@@ -143,17 +136,15 @@ pub item_found : {toks : List Tok} {i j left : ℕ} {value : Expr}
 item_found {toks} {i} {j} {left} {value} h =
     record { derived = g.item_field h.derived; forward = omega arith; within = omega arith; level = omega (arith, lv.item_levels value) }
 
-pub paren_found : {toks : List Tok} {i j k l left inner : ℕ} {e b : Expr}
+pub paren_found : {toks : List Tok} {i j k l left inner : ℕ} {e : Expr}
     → IsToken toks i (Sign sign.LeftParen) j
     → left ≡ inner + 1
     → Found toks (j + 1) k inner (expr_levels e) (IsExpr toks 1 j k e)
     → IsToken toks k (Sign sign.RightParen) l
     → l ≤ length toks
-    → b ≡ e
-    → Found toks (i + 1) l left (expr_levels (expression i l (expr.Paren b))) (IsParen toks i l (expression i l (expr.Paren b)))
-paren_found {toks} {i} {j} {k} {l} {left} {inner} {e} {b} t lev h t2 w eb =
-    subst (λ (z : Expr). Found toks (i + 1) l left (expr_levels (expression i l (expr.Paren z))) (IsParen toks i l (expression i l (expr.Paren z)))) (sym eb)
-    (let n = t.next in let n2 = t2.next in record { derived = g.paren t h.derived t2; forward = omega arith; within = omega arith; level = omega (arith, lv.paren_levels i l e) })
+    → Found toks (i + 1) l left (expr_levels (expression i l (expr.Paren e))) (IsParen toks i l (expression i l (expr.Paren e)))
+paren_found {toks} {i} {j} {k} {l} {left} {inner} {e} t lev h t2 w =
+    let n = t.next in let n2 = t2.next in record { derived = g.paren t h.derived t2; forward = omega arith; within = omega arith; level = omega (arith, lv.paren_levels i l e) }
 
 pub name_found : {toks : List Tok} {i j left : ℕ}
     → IsToken toks i Name j
@@ -167,19 +158,18 @@ suffixed_shaped : {toks : List Tok} {i j k : ℕ} {head : Expr} {suffixes : List
 suffixed_shaped true head rest = g.suffixed_call head rest
 suffixed_shaped false head rest = g.suffixed_variable head rest
 
-pub suffixed_found : {toks : List Tok} {i j k left : ℕ} {a b : Expr} {suffixes : List Suffix} (calls : Bool) {D : Type 0} (shape : Shape) → shape ≡ suffixed_shape calls
-    → Found toks (i + 1) j left (expr_levels a) (D) → IsHead toks i j a → Found toks (j + 1) k left (deepest (map suffix_levels suffixes)) (AreSuffixes toks calls j k suffixes) → b ≡ a
-    → Found toks (i + 1) k left (expr_levels (expression i k (expr.Suffixed b suffixes))) (IsShaped toks i k shape (expression i k (expr.Suffixed b suffixes)))
-suffixed_found {toks} {i} {j} {k} {left} {a} {b} {suffixes} calls shape es h head h2 eb =
-    subst (λ (z : Expr). Found toks (i + 1) k left (expr_levels (expression i k (expr.Suffixed z suffixes))) (IsShaped toks i k shape (expression i k (expr.Suffixed z suffixes)))) (sym eb)
-    (record { derived = subst (λ (s : Shape). IsShaped toks i k s (expression i k (expr.Suffixed a suffixes))) (sym es) (suffixed_shaped calls head h2.derived); forward = omega arith; within = omega arith; level = omega (arith, lv.suffixed_levels i k a suffixes) })
+pub suffixed_found : {toks : List Tok} {i j k left : ℕ} {a : Expr} {suffixes : List Suffix} (calls : Bool) {D : Type 0}
+    → Found toks (i + 1) j left (expr_levels a) (D) → IsHead toks i j a → Found toks (j + 1) k left (deepest (map suffix_levels suffixes)) (AreSuffixes toks calls j k suffixes)
+    → Found toks (i + 1) k left (expr_levels (expression i k (expr.Suffixed a suffixes))) (IsShaped toks i k (suffixed_shape calls) (expression i k (expr.Suffixed a suffixes)))
+suffixed_found {toks} {i} {j} {k} {left} {a} {suffixes} calls h head h2 =
+    record { derived = suffixed_shaped calls head h2.derived; forward = omega arith; within = omega arith; level = omega (arith, lv.suffixed_levels i k a suffixes) }
 
 shaped_prefix : {toks : List Tok} {i j : ℕ} {e : Expr} (shape : Shape) → IsShaped toks i j shape e → IsPrefix toks i j e
 shaped_prefix shape.Variable h = g.variable_prefix h
 shaped_prefix shape.Call h = g.call_prefix h
 shaped_prefix shape.Paren h = g.paren_prefix h
 
-pub prefix_found : {toks : List Tok} {i j left : ℕ} {e : Expr} (shape : Shape) → Found toks (i + 1) j left (expr_levels e) (IsShaped toks i j shape e) → IsClosed toks j → Found toks (i + 1) j left (expr_levels e) (IsSimple toks i j e)
+pub prefix_found : {toks : List Tok} {i j left : ℕ} {e : Expr} (shape : Shape) → Found toks (i + 1) j left (expr_levels e) (IsShaped toks i j shape e) → NoParenFollows toks j → Found toks (i + 1) j left (expr_levels e) (IsSimple toks i j e)
 prefix_found shape h closed = record { derived = g.prefix_simple (shaped_prefix shape h.derived) closed; forward = h.forward; within = h.within; level = h.level }
 
 pub dot_found : {toks : List Tok} {i j k left : ℕ}
@@ -190,15 +180,17 @@ pub dot_found : {toks : List Tok} {i j k left : ℕ}
 dot_found {toks} {i} {j} {k} {left} t t2 w =
     let n = t.next in let n2 = t2.next in record { derived = g.dot_suffix t t2; forward = omega arith; within = omega arith; level = omega (arith, lv.dot_levels j) }
 
-pub index_found : {toks : List Tok} {i j k l left inner : ℕ} {e : Expr}
+pub index_found : {toks : List Tok} {i j k l left inner : ℕ} {e : Expr} {box : Expr}
     → IsToken toks i (Sign sign.LeftBracket) j
     → left ≡ inner + 1
     → Found toks (j + 1) k inner (expr_levels e) (IsExpr toks 1 j k e)
     → IsToken toks k (Sign sign.RightBracket) l
     → l ≤ length toks
-    → Found toks (i + 1) l left (suffix_levels (suffix.Index e)) (IsSuffix toks false i l (suffix.Index e))
-index_found {toks} {i} {j} {k} {l} {left} {inner} {e} t lev h t2 w =
-    let n = t.next in let n2 = t2.next in record { derived = g.index_suffix t h.derived t2; forward = omega arith; within = omega arith; level = omega (arith, lv.index_levels e) }
+    → box ≡ e
+    → Found toks (i + 1) l left (suffix_levels (suffix.Index box)) (IsSuffix toks false i l (suffix.Index box))
+index_found {toks} {i} {j} {k} {l} {left} {inner} {e} {box} t lev h t2 w e0 =
+    subst (λ (z : Expr). Found toks (i + 1) l left (suffix_levels (suffix.Index z)) (IsSuffix toks false i l (suffix.Index z))) (sym e0)
+    (let n = t.next in let n2 = t2.next in record { derived = g.index_suffix t h.derived t2; forward = omega arith; within = omega arith; level = omega (arith, lv.index_levels e) })
 
 pub call_found : {toks : List Tok} {i j left : ℕ} {args : Args}
     → Found toks (i + 1) j left (args_levels args) (IsArgs toks i j args)

@@ -1,5 +1,5 @@
 -- A list that is read part by part: what was read stands before what is left.
-use Rattle.std.proofs.Common.{◌≡◌, ℕ, ◌≤◌, List, [], ◌∷◌, ◌++◌, map, max, refl, sym, subst, ap, arith, append_assoc, append-nil}
+use Rattle.std.proofs.Common.{◌≡◌, ℕ, ◌≤◌, List, [], ◌∷◌, ◌++◌, map, max, refl, sym, subst, ap, arith, append_assoc, append-nil, ◌∙◌}
 use Rattle.luf_tree.specs.Level.{deepest}
 
 -- any rest that is derived from a place completes the list that began at another
@@ -19,8 +19,8 @@ pub joins_last : {A : Type 0} (F : ℕ → ℕ → List A → Type 0) (from at t
     → F at to (x ∷ []) → F from to new
 joins_last {A} F from at to found new x joins e h = subst (λ (xs : List A). F from to xs) (sym e) (joins to (x ∷ []) h)
 
-pub joins_end : {A : Type 0} (F : ℕ → ℕ → List A → Type 0) (from at : ℕ) (found : List A) → Joins F from at found → F at at [] → F from at found
-joins_end {A} F from at found joins h = subst (λ (xs : List A). F from at xs) (append-nil found) (joins at [] h)
+pub joins_end : {A : Type 0} (F : ℕ → ℕ → List A → Type 0) (from at : ℕ) (found all : List A) → Joins F from at found → all ≡ found → F at at [] → F from at all
+joins_end {A} F from at found all joins e h = subst (λ (xs : List A). F from at xs) (append-nil found ∙ sym e) (joins at [] h)
 
 deepest_append : (xs : List ℕ) (n : ℕ) → deepest (xs ++ n ∷ []) ≡ max (deepest xs) n
 deepest_append [] n = omega arith
@@ -37,3 +37,6 @@ level_more f found new x left a e b = omega (arith, deepest_append (map f found)
 -- what is said of no parts
 pub nothing : {A : Type 0} (P : List A → Type 0) (found : List A) → found ≡ [] → P [] → P found
 nothing P found e h = subst P (sym e) h
+
+pub level_end : {A : Type 0} (f : A → ℕ) (found all : List A) (left : ℕ) → deepest (map f found) ≤ left → all ≡ found → deepest (map f all) ≤ left
+level_end f found all left h e = omega (arith, h, ap (λ xs. deepest (map f xs)) e)

@@ -6,9 +6,9 @@ use Rattle.luf_lex.specs.declared.token.Sign.TheVariants as sign
 use Rattle.luf_tree.specs.declared.tree.Declared.{Declared}
 use Rattle.luf_tree.specs.Grammar as g
 use Rattle.luf_tree.specs.Grammar.{At, IsToken, AreNames, AreParams, IsAttribute, AreDeclared, IsPath}
-use Rattle.luf_parse.specs.Exact.{Then}
-use Rattle.luf_parse.specs.Follow.{NotAt}
-use Rattle.luf_parse.specs.Parts.{ReadNames, ReadPath, ReadParams, ReadAttribute, ReadDeclared, EndsDeclared}
+use Rattle.luf_parse.specs.inner.Exact.{Then}
+use Rattle.luf_parse.specs.inner.Follow.{NotAt}
+use Rattle.luf_parse.specs.inner.Parts.{ReadNames, ReadPath, ReadParams, ReadAttribute, ReadDeclared, EndsDeclared}
 use Rattle.luf_parse.proofs.Exactness.{ListRest}
 
 -- the same token stands at the same place

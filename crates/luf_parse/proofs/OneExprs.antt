@@ -15,11 +15,11 @@ use Rattle.luf_tree.specs.First.{starts_expr}
 use Rattle.luf_tree.specs.Grammar as g
 use Rattle.luf_tree.specs.Grammar.{At, expression, IsToken, IsString, AreDeclared, IsExpr, IsSimple, IsPrefix, IsCall, IsParen, IsHead, AreExprs, IsTable, IsSemicolon, IsReturn, AreTargets, IsElse, IsForStep}
 use Rattle.luf_tree.proofs.TokenLaws.{expr_starts}
-use Rattle.luf_parse.specs.Exact.{Alone}
-use Rattle.luf_parse.specs.Follow.{NotAt, NotAssigned, NotString, IsSeparator, EndsExpr, EndsExprs, sign_begins_prefix, begins_prefix, ends_field, EndsField}
-use Rattle.luf_parse.specs.Parts.{ReadSteps, ReadChain, ReadExpr, ReadOperand, ReadSimple, ReadPrefix, ReadHead, ReadParen, ReadSuffixes}
-use Rattle.luf_parse.specs.Reads.{level_at, begins_suffix}
-use Rattle.luf_parse.specs.Shapes.{suffixed_shape, sign_leaf, leaf_kind}
+use Rattle.luf_parse.specs.inner.Exact.{Alone}
+use Rattle.luf_parse.specs.inner.Follow.{NotAt, NotAssigned, NotString, IsSeparator, EndsExpr, EndsExprs, sign_begins_prefix, begins_prefix, ends_field, EndsField, precedence_at}
+use Rattle.luf_parse.specs.inner.Parts.{ReadSteps, ReadChain, ReadExpr, ReadOperand, ReadSimple, ReadPrefix, ReadHead, ReadParen, ReadSuffixes}
+use Rattle.luf_parse.specs.inner.Reads.{begins_suffix}
+use Rattle.luf_parse.specs.inner.Shapes.{suffixed_shape, sign_leaf, leaf_kind}
 use Rattle.luf_parse.specs.declared.prefixes.Shape.{Shape}
 use Rattle.luf_parse.specs.declared.prefixes.Shape.TheVariants.{Paren}
 use Rattle.luf_parse.proofs.Exactness.{alone_form, alone_next, alone_is, alone_triple, then_rest}
@@ -73,7 +73,7 @@ pub operand_leads : {toks : List Tok} {left i level : ℕ} {e : Expr} → Alone 
 operand_leads {e = e} only = record { whole = e; only = only; grows = λ least low y h. h }
 
 -- a chain, whose first operand leads and whose steps are known
-pub chain_leads : {toks : List Tok} {left i j k level least : ℕ} {first : Expr} {steps : List Step} → least ≤ level → IsExpr toks (level + 1) i j first → level_at toks j ≡ level → Leads toks left i (level + 1) first
+pub chain_leads : {toks : List Tok} {left i j k level least : ℕ} {first : Expr} {steps : List Step} → least ≤ level → IsExpr toks (level + 1) i j first → precedence_at toks j ≡ level → Leads toks left i (level + 1) first
     → Alone (ReadSteps toks level left j) (steps, k) → Leads toks left i least (expression i k (expr.Chain first steps))
 chain_leads {toks} {left} {i} {j} {k} {level} {first = first} {steps = steps} above d here leads only = record {
   whole = leads.whole;
@@ -81,8 +81,8 @@ chain_leads {toks} {left} {i} {j} {k} {level} {first = first} {steps = steps} ab
   grows = λ n low y h. then_rest chain (grown_form at_first (omega arith) y (leads.grows n (omega arith) y h));
 }
   where
-    at_first : level_at toks (out-Expr first).to ≡ level
-    at_first = subst (λ (p : ℕ). level_at toks p ≡ level) (sym (expr_to d)) here
+    at_first : precedence_at toks (out-Expr first).to ≡ level
+    at_first = subst (λ (p : ℕ). precedence_at toks p ≡ level) (sym (expr_to d)) here
 
     chain : Alone (ReadChain toks level left i first) (expression i k (expr.Chain first steps))
     chain = alone_next (subst (λ (p : ℕ). Alone (ReadSteps toks level left p) (steps, k)) (sym (expr_to d)) only) (alone_is refl)
@@ -97,8 +97,8 @@ pub leads_only : {toks : List Tok} {left i j level : ℕ} {e : Expr} → IsExpr 
 leads_only {toks} {left} {i} {j} {level} {e} d ends leads =
     record { leads = leads; alone = λ y h. grown_end at_end y (leads.grows level (omega arith) y (then_rest leads.only (operand_form y h))) }
   where
-    at_end : level_at toks (out-Expr e).to < level
-    at_end = subst (λ (p : ℕ). level_at toks p < level) (sym (expr_to d)) ends.level
+    at_end : precedence_at toks (out-Expr e).to < level
+    at_end = subst (λ (p : ℕ). precedence_at toks p < level) (sym (expr_to d)) ends.precedence
 
 pub power_to : {i j l : ℕ} (base exponent : Expr) → (out-Expr base).to ≡ j → (out-Expr exponent).to ≡ l
     → expression i (out-Expr exponent).to (expr.Power base (out-Expr base).to exponent) ≡ expression i l (expr.Power base j exponent)

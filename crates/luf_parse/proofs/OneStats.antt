@@ -12,9 +12,9 @@ use Rattle.luf_tree.specs.declared.tree.Stat.{Stat}
 use Rattle.luf_tree.specs.declared.tree.Declared.{Declared}
 use Rattle.luf_tree.specs.Grammar as g
 use Rattle.luf_tree.specs.Grammar.{At, expression, IsToken, IsString, AreDeclared, IsExpr, IsSimple, IsPrefix, IsCall, IsParen, IsHead, AreExprs, IsTable, IsSemicolon, IsReturn, AreTargets, IsElse, IsForStep}
-use Rattle.luf_parse.specs.Exact.{Alone}
-use Rattle.luf_parse.specs.Follow.{NotAt, EndsExpr, EndsExprs, begins_prefix, ends_block, ends_arms, ends_return, follows_stat, EndsBlock, EndsStat, EndsArms}
-use Rattle.luf_parse.specs.Parts.{EndsDeclared, ReadPrefix, ReadBlock, ReadStats, ReadSemicolon, ReadEnded, ReadVariable, ReadMoreTargets, ReadElse, ReadForStep}
+use Rattle.luf_parse.specs.inner.Exact.{Alone}
+use Rattle.luf_parse.specs.inner.Follow.{NotAt, EndsExpr, EndsExprs, begins_prefix, ends_block, ends_arms, ends_return, follows_stat, EndsBlock, EndsStat, EndsArms}
+use Rattle.luf_parse.specs.inner.Parts.{EndsDeclared, ReadPrefix, ReadBlock, ReadStats, ReadSemicolon, ReadEnded, ReadVariable, ReadMoreTargets, ReadElse, ReadForStep}
 use Rattle.luf_parse.specs.declared.prefixes.PrefixExpr.{PrefixExpr}
 use Rattle.luf_parse.specs.declared.prefixes.Shape.TheVariants.{Variable}
 use Rattle.luf_parse.proofs.Exactness.{alone_next, alone_is, then_rest, token_only}

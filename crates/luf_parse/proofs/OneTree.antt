@@ -26,10 +26,10 @@ use Rattle.luf_tree.specs.Level.{depth_of}
 use Rattle.luf_tree.specs.Grammar as g
 use Rattle.luf_tree.specs.Grammar.{At, expression, statement, IsToken, IsExpr, AreSteps, IsOperand, IsSimple, IsVariable, IsCall, IsParen, IsHead, AreSuffixes, IsSuffix, IsArgs, AreExprs, IsTable, AreFields, IsField, IsFuncBody, IsBlock, AreStats, IsReturn, IsStat, AreTargets, IsArm, AreArms, IsElse, IsForStep, IsChunk}
 use Rattle.luf_tree.proofs.TokenLaws.{expr_starts}
-use Rattle.luf_parse.specs.Exact.{Alone}
-use Rattle.luf_parse.specs.Follow.{NotAt, continues_prefix, EndsOperand, EndsExpr, EndsExprs, ends_block, ends_arms, ends_field, EndsBlock, EndsStat, EndsArms, EndsField}
-use Rattle.luf_parse.specs.Parts.{ReadSteps, ReadOperand, ReadSimple, ReadTable, ReadFields, ReadField, ReadExprs, ReadPrefix, ReadParen, ReadSuffix, ReadArgs, ReadFuncBody, ReadBlock, ReadStats, ReadReturn, ReadStat, ReadArms, ReadArm, ReadElse, ReadForStep}
-use Rattle.luf_parse.specs.Reads.{level_at, token_begins_suffix, begins_suffix}
+use Rattle.luf_parse.specs.inner.Exact.{Alone}
+use Rattle.luf_parse.specs.inner.Follow.{NotAt, continues_prefix, EndsOperand, EndsExpr, EndsExprs, ends_block, ends_arms, ends_field, EndsBlock, EndsStat, EndsArms, EndsField, precedence_at}
+use Rattle.luf_parse.specs.inner.Parts.{ReadSteps, ReadOperand, ReadSimple, ReadTable, ReadFields, ReadField, ReadExprs, ReadPrefix, ReadParen, ReadSuffix, ReadArgs, ReadFuncBody, ReadBlock, ReadStats, ReadReturn, ReadStat, ReadArms, ReadArm, ReadElse, ReadForStep}
+use Rattle.luf_parse.specs.inner.Reads.{token_begins_suffix, begins_suffix}
 use Rattle.luf_parse.specs.declared.prefixes.Shape.TheVariants.{Variable, Call, Paren}
 use Rattle.luf_parse.proofs.AllTokens.{end_ends_block, chunk_read}
 use Rattle.luf_parse.proofs.Begins.{table_begins, suffixes_begin, steps_begin, exprs_start, begins_args, args_begin, field_begins}
@@ -49,20 +49,20 @@ mutual
   expr_only (g.operand_expr d) ends left = leads_only (g.operand_expr d) ends (operand_leads (operand_only d ends.operand left))
   expr_only (g.chain_expr some above d steps) ends left =
       let here = steps_begin steps in
-      let low = ends.level in
+      let low = ends.precedence in
       leads_only (g.chain_expr some above d steps) ends
-      (chain_leads above d here (expr_only d (record { level = omega arith; operand = binary_ends_operand (omega arith) }) left).leads
-      (steps_only steps some (record { level = omega arith; operand = ends.operand }) left))
+      (chain_leads above d here (expr_only d (record { precedence = omega arith; operand = binary_ends_operand (omega arith) }) left).leads
+      (steps_only steps some (record { precedence = omega arith; operand = ends.operand }) left))
 
   steps_only : {toks : List Tok} {m i j : ℕ} {steps : List Step} → AreSteps toks m i j steps → 0 < m → EndsExpr toks m j → (left : ℕ) → Alone (ReadSteps toks m left i) (steps, j)
   steps_only {toks} {m} (g.one_step t known d) some ends left =
-      let low = ends.level in
-      alone_form (steps_form some t) (alone_next (expr_only d (record { level = omega arith; operand = ends.operand }) left).alone
-      (rest_last (expr_to d) (λ next sep. let here = subst (λ (p : ℕ). level_at toks p ≡ m) (expr_to d) sep.0 in absurd (omega arith))))
+      let low = ends.precedence in
+      alone_form (steps_form some t) (alone_next (expr_only d (record { precedence = omega arith; operand = ends.operand }) left).alone
+      (rest_last (expr_to d) (λ next sep. let here = subst (λ (p : ℕ). precedence_at toks p ≡ m) (expr_to d) sep.0 in absurd (omega arith))))
   steps_only {toks} {m} (g.more_steps t known d rest) some ends left =
       let here = steps_begin rest in
-      alone_form (steps_form some t) (alone_next (expr_only d (record { level = omega arith; operand = binary_ends_operand (omega arith) }) left).alone
-      (rest_more _ (subst (λ (p : ℕ). level_at toks p ≡ m) (sym (expr_to d)) here, sym (expr_to d)) (steps_only rest some ends left)))
+      alone_form (steps_form some t) (alone_next (expr_only d (record { precedence = omega arith; operand = binary_ends_operand (omega arith) }) left).alone
+      (rest_more _ (subst (λ (p : ℕ). precedence_at toks p ≡ m) (sym (expr_to d)) here, sym (expr_to d)) (steps_only rest some ends left)))
 
   operand_only : {toks : List Tok} {i j : ℕ} {e : Expr} → IsOperand toks i j e → EndsOperand toks j → (left : ℕ) → Alone (ReadOperand toks left i) e
   operand_only {i = i} (g.unary_operand {e = operand} t unary d) ends left =

@@ -1,6 +1,6 @@
 -- Where there is at most one of each part, there is at most one whole.
 use Rattle.std.proofs.Common.{◌≡◌, ℕ, List, [], ◌∷◌, ap, ◌∙◌}
-use Rattle.luf_parse.specs.Exact.{Alone, Then, Enters}
+use Rattle.luf_parse.specs.inner.Exact.{Alone, Then, Enters}
 use Rattle.luf_parse.proofs.Exactness.{ListRest}
 
 -- a level is entered, and then the rest is known at each level

@@ -10,18 +10,17 @@ use Rattle.luf_lex.specs.declared.token.Sign.{Sign}
 use Rattle.luf_lex.specs.declared.token.Sign.TheVariants as sign
 use Rattle.luf_tree.specs.declared.tree.Block.{Block}
 use Rattle.luf_tree.specs.declared.tree.Stat.{Stat}
-use Rattle.luf_tree.specs.declared.tree.FuncBody.{FuncBody}
 use Rattle.luf_tree.specs.declared.tree.Expr.{Expr}
 use Rattle.luf_tree.specs.First.{word_starts_stat, sign_starts_stat, starts_stat, word_starts_expr, sign_starts_expr, starts_expr}
-use Rattle.luf_tree.specs.Level.{expr_levels, stat_levels, block_levels, body_levels}
+use Rattle.luf_tree.specs.Level.{expr_levels, stat_levels, block_levels}
 use Rattle.luf_tree.specs.Grammar as g
-use Rattle.luf_tree.specs.Grammar.{IsToken, IsExpr, IsVariable, IsFuncBody, IsBlock, AreStats, IsReturn, IsStat, AreExprs, IsSemicolon}
+use Rattle.luf_tree.specs.Grammar.{IsToken, IsVariable, IsBlock, AreStats, IsReturn, IsStat, AreExprs, IsSemicolon}
 use Rattle.luf_tree.proofs.TokenLaws.{expr_starts, stat_starts}
-use Rattle.luf_parse.specs.Exact.{Then}
-use Rattle.luf_parse.specs.Follow.{NotAt, EndsExpr, EndsExprs, ends_block, word_stops_stats, stops_stats, ends_return, EndsBlock, word_follows_stat, sign_follows_stat, follows_stat, EndsStat, sign_continues, continues_prefix}
-use Rattle.luf_parse.specs.Parts.{Part, ReadExpr, ReadFuncBody, ReadBlock, ReadEnded, ReadStat, ReadReturn, ReadVariable}
-use Rattle.luf_parse.specs.Reads.{begins_suffix}
-use Rattle.luf_parse.proofs.Ends.{moved, expr_to, variable_to, body_to, block_to, return_to, stat_to}
+use Rattle.luf_parse.specs.inner.Exact.{Then}
+use Rattle.luf_parse.specs.inner.Follow.{NotAt, EndsExprs, ends_block, word_stops_stats, stops_stats, ends_return, EndsBlock, follows_stat, EndsStat, sign_continues, continues_prefix}
+use Rattle.luf_parse.specs.inner.Parts.{Part, ReadBlock, ReadEnded, ReadStat, ReadReturn, ReadVariable}
+use Rattle.luf_parse.specs.inner.Reads.{begins_suffix}
+use Rattle.luf_parse.proofs.Ends.{moved, variable_to, block_to, return_to, stat_to}
 use Rattle.luf_parse.proofs.Following.{block_ends_stat, stat_ends_exprs, closed_suffix}
 
 -- a part, and then the rest
@@ -30,31 +29,25 @@ reads part first rest = record { part = part; first = first; rest = rest }
 
 -- parts that are derived
 
-pub expr_read : {toks : List Tok} {left i j : ℕ} {e : Expr} → IsExpr toks 1 i j e → EndsExpr toks 1 j → expr_levels e ≤ left → ReadExpr toks 1 left i e
-expr_read {toks} {left} {i} {j} {e} d ends level = subst (λ p. Part (IsExpr toks 1 i p e) (EndsExpr toks 1 p) (expr_levels e) left) (sym (expr_to d)) (record { is = d; ends = ends; level = level })
+pub read_variable : {toks : List Tok} {left i j : ℕ} {e : Expr} → IsVariable toks i j e → begins_suffix toks j ≡ false → expr_levels e ≤ left → ReadVariable toks left i e
+read_variable {toks} {left} {i} {j} {e} d ends level = subst (λ p. Part (IsVariable toks i p e) (begins_suffix toks p ≡ false) (expr_levels e) left) (sym (variable_to d)) (record { is = d; ends = ends; level = level })
 
-pub variable_read : {toks : List Tok} {left i j : ℕ} {e : Expr} → IsVariable toks i j e → begins_suffix toks j ≡ false → expr_levels e ≤ left → ReadVariable toks left i e
-variable_read {toks} {left} {i} {j} {e} d ends level = subst (λ p. Part (IsVariable toks i p e) (begins_suffix toks p ≡ false) (expr_levels e) left) (sym (variable_to d)) (record { is = d; ends = ends; level = level })
+pub read_block : {toks : List Tok} {left i j : ℕ} {b : Block} → IsBlock toks i j b → EndsBlock toks j → block_levels b ≤ left → ReadBlock toks left i b
+read_block {toks} {left} {i} {j} {b} d ends level = subst (λ p. Part (IsBlock toks i p b) (EndsBlock toks p) (block_levels b) left) (sym (block_to d)) (record { is = d; ends = ends; level = level })
 
-pub body_read : {toks : List Tok} {left i j : ℕ} {f : FuncBody} → IsFuncBody toks i j f → body_levels f ≤ left → ReadFuncBody toks left i f
-body_read {toks} {left} {i} {j} {f} d level = record { is = subst (λ p. IsFuncBody toks i p f) (sym (body_to d)) d; ends = tt; level = level }
+pub read_return : {toks : List Tok} {left i j : ℕ} {s : Stat} → IsReturn toks i j s → EndsBlock toks j → stat_levels s ≤ left → ReadReturn toks left i s
+read_return {toks} {left} {i} {j} {s} d ends level = subst (λ p. Part (IsReturn toks i p s) (EndsBlock toks p) (stat_levels s) left) (sym (return_to d)) (record { is = d; ends = ends; level = level })
 
-pub block_read : {toks : List Tok} {left i j : ℕ} {b : Block} → IsBlock toks i j b → EndsBlock toks j → block_levels b ≤ left → ReadBlock toks left i b
-block_read {toks} {left} {i} {j} {b} d ends level = subst (λ p. Part (IsBlock toks i p b) (EndsBlock toks p) (block_levels b) left) (sym (block_to d)) (record { is = d; ends = ends; level = level })
-
-pub return_read : {toks : List Tok} {left i j : ℕ} {s : Stat} → IsReturn toks i j s → EndsBlock toks j → stat_levels s ≤ left → ReadReturn toks left i s
-return_read {toks} {left} {i} {j} {s} d ends level = subst (λ p. Part (IsReturn toks i p s) (EndsBlock toks p) (stat_levels s) left) (sym (return_to d)) (record { is = d; ends = ends; level = level })
-
-pub stat_read : {toks : List Tok} {left i j : ℕ} {s : Stat} → IsStat toks i j s → EndsStat toks j → stat_levels s ≤ left → ReadStat toks left i s
-stat_read {toks} {left} {i} {j} {s} d ends level = subst (λ p. Part (IsStat toks i p s) (EndsStat toks p) (stat_levels s) left) (sym (stat_to d)) (record { is = d; ends = ends; level = level })
+pub read_stat : {toks : List Tok} {left i j : ℕ} {s : Stat} → IsStat toks i j s → EndsStat toks j → stat_levels s ≤ left → ReadStat toks left i s
+read_stat {toks} {left} {i} {j} {s} d ends level = subst (λ p. Part (IsStat toks i p s) (EndsStat toks p) (stat_levels s) left) (sym (stat_to d)) (record { is = d; ends = ends; level = level })
 
 -- a block that its first token enters, and its `end`
-pub ended_read : {toks : List Tok} {left i j k : ℕ} {b : Block} → IsBlock toks i j b → IsToken toks j (tok.Word word.End) k → block_levels b + 1 ≤ left → ReadEnded toks left i (b, k)
-ended_read {toks} {left} {i} {j} {k} {b} d t level = reads (left - 1) (omega arith) (reads b (block_read d (ap ends_block t.there) (omega arith)) (reads k (moved (block_to d) t) refl))
+pub read_ended : {toks : List Tok} {left i j k : ℕ} {b : Block} → IsBlock toks i j b → IsToken toks j (tok.Word word.End) k → block_levels b + 1 ≤ left → ReadEnded toks left i (b, k)
+read_ended {toks} {left} {i} {j} {k} {b} d t level = reads (left - 1) (omega arith) (reads b (read_block d (ap ends_block t.there) (omega arith)) (reads k (moved (block_to d) t) refl))
 
 -- what may follow a statement
 
-word_starts_follows : (w : Word) → word_starts_stat w ≡ true → word_follows_stat w ≡ true
+word_starts_follows : (w : Word) → word_starts_stat w ≡ true → follows_stat (Some (tok.Word w)) ≡ true
 word_starts_follows word.Break h = refl
 word_starts_follows word.Do h = refl
 word_starts_follows word.For h = refl
@@ -66,16 +59,10 @@ word_starts_follows word.Repeat h = refl
 word_starts_follows word.While h = refl
 word_starts_follows _ h = absurd cc
 
-sign_starts_follows : (s : Sign) → sign_starts_stat s ≡ true → sign_follows_stat s ≡ true
-sign_starts_follows sign.Semicolon h = refl
-sign_starts_follows sign.DoubleColon h = refl
-sign_starts_follows sign.LeftParen h = refl
-sign_starts_follows _ h = absurd cc
-
 starts_follows : (t : Option Tok) → starts_stat t ≡ true → follows_stat t ≡ true
 starts_follows (Some tok.Name) h = refl
 starts_follows (Some (tok.Word w)) h = word_starts_follows w h
-starts_follows (Some (tok.Sign s)) h = sign_starts_follows s h
+starts_follows (Some (tok.Sign s)) h = h
 starts_follows _ h = absurd cc
 
 -- where a statement may begin or a `return`, or a block ends, the statement before ends
@@ -151,7 +138,7 @@ semicolon_ends_exprs {toks} {i} g.no_semicolon ends = stat_ends_exprs (block_end
 semicolon_ends_exprs (g.a_semicolon t) ends = stat_ends_exprs (ap follows_stat t.there)
 
 -- what may follow a statement goes on with a prefix expression by a `(` alone
-sign_follows_suffix : (s : Sign) → sign_follows_stat s ≡ true → sign_continues s ≡ false
+sign_follows_suffix : (s : Sign) → sign_starts_stat s ≡ true → sign_continues s ≡ false
 sign_follows_suffix sign.Semicolon h = refl
 sign_follows_suffix sign.DoubleColon h = refl
 sign_follows_suffix sign.LeftParen h = refl

@@ -18,20 +18,20 @@ use Rattle.luf_tree.specs.declared.tree.FuncBody.{FuncBody, roll-FuncBody, out-F
 use Rattle.luf_tree.specs.declared.tree.Expr.{Expr, out-Expr}
 use Rattle.luf_tree.specs.Level.{deepest, expr_levels, stat_levels, block_levels, arm_levels, body_levels, if_there, block_if_there}
 use Rattle.luf_tree.specs.Grammar as g
-use Rattle.luf_tree.specs.Grammar.{At, expression, statement, IsToken, IsClosed, AreNames, AreDeclared, IsPath, IsMethod, IsSemicolon, IsExpr, IsVariable, IsCall, IsHead, AreExprs, IsFuncBody, IsBlock, AreStats, IsReturn, IsStat, AreTargets, IsArm, AreArms, IsElse, IsForStep}
+use Rattle.luf_tree.specs.Grammar.{At, expression, statement, IsToken, NoParenFollows, AreNames, AreDeclared, IsPath, IsMethod, IsSemicolon, IsExpr, IsVariable, IsCall, IsHead, AreExprs, IsFuncBody, IsBlock, AreStats, IsReturn, IsStat, AreTargets, IsArm, AreArms, IsElse, IsForStep}
 use Rattle.luf_tree.proofs.LevelEquations as lv
-use Rattle.luf_parse.specs.Exact.{Alone, Then, Enters}
-use Rattle.luf_parse.specs.Follow.{NotAt, EndsExpr, ends_block, stops_stats, ends_arms, follows_stat, ends_return, begins_prefix, EndsBlock, EndsStat, EndsArms}
-use Rattle.luf_parse.specs.Parts.{Part, ReadExpr, ReadExprs, ReadFuncBody, ReadParams, ReadBlock, ReadStats, ReadSemicolon, ReadReturn, ReadShort, ReadStat, ReadLabel, ReadGoto, ReadDo, ReadWhile, ReadRepeat, ReadArms, ReadArm, ReadElse, ReadIf, ReadForStep, ReadCount, ReadFor, ReadFunctionStat, ReadLocalFunction, ReadLocal, ReadVariable, ReadMoreTargets, ReadExprStat, ReadPrefix}
-use Rattle.luf_parse.specs.Reads.{token_begins_suffix, begins_suffix}
+use Rattle.luf_parse.specs.inner.Exact.{Alone, Then, Enters}
+use Rattle.luf_parse.specs.inner.Follow.{NotAt, EndsExpr, ends_block, stops_stats, ends_arms, follows_stat, ends_return, begins_prefix, EndsBlock, EndsStat, EndsArms}
+use Rattle.luf_parse.specs.inner.Parts.{Part, ReadExpr, ReadExprs, ReadFuncBody, ReadParams, ReadBlock, ReadStats, ReadSemicolon, ReadReturn, ReadShort, ReadStat, ReadLabel, ReadGoto, ReadDo, ReadWhile, ReadRepeat, ReadArms, ReadArm, ReadElse, ReadIf, ReadForStep, ReadCount, ReadFor, ReadFunctionStat, ReadLocalFunction, ReadLocal, ReadVariable, ReadMoreTargets, ReadExprStat, ReadPrefix}
+use Rattle.luf_parse.specs.inner.Reads.{token_begins_suffix, begins_suffix}
 use Rattle.luf_parse.specs.declared.prefixes.Shape.TheVariants.{Variable, Call}
 use Rattle.luf_tree.specs.First.{starts_stat}
 use Rattle.luf_tree.proofs.TokenLaws.{stat_starts}
 use Rattle.luf_parse.proofs.Exactness.{ListRest}
 use Rattle.luf_parse.proofs.NameForms.{same_end, second_end}
-use Rattle.luf_parse.proofs.Ends.{moved, expr_to, variable_to, call_to, body_to, block_to, return_to, stat_to}
+use Rattle.luf_parse.proofs.Ends.{read_expr, read_body, moved, expr_to, variable_to, call_to, body_to, block_to, return_to, stat_to}
 use Rattle.luf_parse.proofs.Following.{not_at, token_closes, stat_ends_expr, stat_ends_exprs, arms_end_block, block_ends_stats}
-use Rattle.luf_parse.proofs.Reading.{reads, expr_read, variable_read, body_read, block_read, return_read, stat_read, ended_read, stats_follow, stat_goes, values_go, semicolon_ends_return, semicolon_ends_exprs, stat_ends_prefix}
+use Rattle.luf_parse.proofs.Reading.{reads, read_variable, read_block, read_return, read_stat, read_ended, stats_follow, stat_goes, values_go, semicolon_ends_return, semicolon_ends_exprs, stat_ends_prefix}
 
 -- functions and blocks
 
@@ -45,7 +45,7 @@ func_body_form {toks} {left} {i} f h = form (out-FuncBody f).to f h.is h.level
   where
     form : (j : ℕ) (f : FuncBody) → IsFuncBody toks i j f → body_levels f ≤ left → FuncBodyForm toks left i f
     form _ _ (g.func_body {j = j} {k = k} {l = l} {p = p} {params = params} {vararg = vararg} {body = body} t ps u d v) level =
-        reads j t (reads (params, vararg, k) (record { is = ps; ends = u.there; level = omega arith }) (reads l u (reads body (block_read d (ap ends_block v.there) (omega (arith, lv.body_of_levels i p params vararg body)))
+        reads j t (reads (params, vararg, k) (record { is = ps; ends = u.there; level = omega arith }) (reads l u (reads body (read_block d (ap ends_block v.there) (omega (arith, lv.body_of_levels i p params vararg body)))
         (reads p (moved (block_to d) v) refl))))
 
 abbrev pub BlockForm : List Tok → ℕ → ℕ → Block → Type 0
@@ -70,7 +70,7 @@ stats_form {toks} {left} {i} goes r h = form r.0 r.1 h.is h.ends h.level
     form _ _ (g.last_stat (g.return_values t _ _)) ends level = let stops = ap stops_stats t.there in absurd cc
     form _ k (g.more_stats {s = s} {stats = stats} d rest) ends level = record {
       part = s;
-      first = stat_read d (stats_follow rest ends) (omega arith);
+      first = read_stat d (stats_follow rest ends) (omega arith);
       rest = ((stats, k), subst (λ p. ReadStats toks left p (stats, k)) (sym (stat_to d)) (record { is = rest; ends = ends; level = omega arith }), refl);
     }
 
@@ -82,7 +82,7 @@ last_form {toks} {left} {i} t r h = form r.0 r.1 h.is h.ends h.level
   where
     form : (stats : List Stat) (j : ℕ) → AreStats toks i j stats → EndsBlock toks j → deepest (map stat_levels stats) ≤ left → LastForm toks left i (stats, j)
     form _ _ g.no_stats ends level = let here = ap ends_block t in absurd cc
-    form _ j (g.last_stat {s = s} d) ends level = record { part = s; first = return_read d ends (omega arith); rest = ap (λ p. (s ∷ [], p)) (sym (return_to d)) }
+    form _ j (g.last_stat {s = s} d) ends level = record { part = s; first = read_return d ends (omega arith); rest = ap (λ p. (s ∷ [], p)) (sym (return_to d)) }
     form _ _ (g.more_stats d _) ends level = let here = ap stops_stats t in let goes = stat_goes d in absurd cc
 
 pub stats_end : {toks : List Tok} {left i : ℕ} → stops_stats (slice_get toks i) ≡ true → NotAt toks i (Word word.Return) → (r : List Stat × ℕ) → ReadStats toks left i r → r ≡ ([], i)
@@ -180,8 +180,8 @@ arm_form {toks} {left} {i} r h = form r.0 r.1 h.is h.ends h.level
   where
     form : (a : Arm) (j : ℕ) → IsArm toks i j a → EndsBlock toks j → arm_levels a ≤ left → ArmForm toks left i (a, j)
     form _ l (g.arm {k = k} {e = e} {body = body} test t d) ends level = let levels = lv.arm_of_levels e body in
-        reads e (expr_read test (token_closes t.there refl refl refl) (omega arith)) (reads k (moved (expr_to test) t) (reads (left - 1) (omega arith)
-        (reads body (block_read d ends (omega arith)) (ap (λ p. (roll-Arm (record { test = e; body = body }), p)) (sym (block_to d))))))
+        reads e (read_expr test (token_closes t.there refl refl refl) (omega arith)) (reads k (moved (expr_to test) t) (reads (left - 1) (omega arith)
+        (reads body (read_block d ends (omega arith)) (ap (λ p. (roll-Arm (record { test = e; body = body }), p)) (sym (block_to d))))))
 
 abbrev pub ElseForm : List Tok → ℕ → ℕ → (Option Block × ℕ) → Type 0
 ElseForm toks left inside = Then (Enters left) (λ inner. Then (ReadBlock toks inner inside) (λ body r. r ≡ (Some body, (out-Block body).to)))
@@ -194,7 +194,7 @@ else_form {toks} {left} {i} {inside} t r h = form r.0 r.1 h.is h.ends h.level
     form (Some body) k (g.an_else u d) ends level = record {
       part = left - 1;
       first = omega arith;
-      rest = record { part = body; first = block_read (subst (λ p. IsBlock toks p k body) (same_end u t) d) (ap ends_block ends) (omega arith); rest = ap (λ p. (Some body, p)) (sym (block_to d)) };
+      rest = record { part = body; first = read_block (subst (λ p. IsBlock toks p k body) (same_end u t) d) (ap ends_block ends) (omega arith); rest = ap (λ p. (Some body, p)) (sym (block_to d)) };
     }
 
 abbrev pub ForStepForm : List Tok → ℕ → ℕ → (Option Expr × ℕ) → Type 0
@@ -207,7 +207,7 @@ for_step_form {toks} {left} {i} {from} t r h = form r.0 r.1 h.is h.ends h.level
     form None _ g.no_for_step ends level = let here = t.there in absurd cc
     form (Some e) k (g.a_for_step u d) ends level = record {
       part = e;
-      first = expr_read (subst (λ p. IsExpr toks 1 p k e) (same_end u t) d) (token_closes ends refl refl refl) (omega arith);
+      first = read_expr (subst (λ p. IsExpr toks 1 p k e) (same_end u t) d) (token_closes ends refl refl refl) (omega arith);
       rest = ap (λ p. (Some e, p)) (sym (expr_to d));
     }
 
@@ -233,9 +233,9 @@ targets_form {toks} {left} {i} {next} {one} t r h = form r.1 r.0 h.targets.is h.
     -- the targets behind the `,`
     others : (p l : ℕ) (es : List Expr) → p ≡ next → AreTargets toks p l es → At toks l (Sign sign.Assign) → deepest (map expr_levels es) ≤ left → NextTargetForm toks left one next (one ∷ es, l)
     others p l _ at (g.one_target {e = e} d) ends level = subst (λ p. NextTargetForm toks left one p (one ∷ e ∷ [], l)) at
-        (record { part = e; first = variable_read d (ap token_begins_suffix ends) (omega arith); rest = ((e ∷ [], l), record { others = []; begins = refl; targets = record { is = g.one_target d; ends = ends; level = level } }, refl) })
+        (record { part = e; first = read_variable d (ap token_begins_suffix ends) (omega arith); rest = ((e ∷ [], l), record { others = []; begins = refl; targets = record { is = g.one_target d; ends = ends; level = level } }, refl) })
     others p l _ at (g.more_targets {e = e} {targets = es} d u rest) ends level = subst (λ p. NextTargetForm toks left one p (one ∷ e ∷ es, l)) at
-        (record { part = e; first = variable_read d (ap token_begins_suffix u.there) (omega arith); rest = ((e ∷ es, l), record { others = es; begins = refl; targets = record { is = g.more_targets d u rest; ends = ends; level = level } }, refl) })
+        (record { part = e; first = read_variable d (ap token_begins_suffix u.there) (omega arith); rest = ((e ∷ es, l), record { others = es; begins = refl; targets = record { is = g.more_targets d u rest; ends = ends; level = level } }, refl) })
 
     form : (j : ℕ) (es : List Expr) → AreTargets toks i j es → es ≡ one ∷ h.others → At toks j (Sign sign.Assign) → deepest (map expr_levels es) ≤ left → NextTargetForm toks left one next (es, j)
     form j _ (g.one_target {e = e} d) begins ends level = let same : e ≡ one = cc in let comma = subst (λ p. At toks p (Sign sign.Comma)) (ap (λ x. (out-Expr x).to) (sym same) ∙ variable_to d) t.there in absurd cc
@@ -300,11 +300,11 @@ assign_form : {toks : List Tok} {left i j k l : ℕ} {one : Expr} {others es : L
     → AreExprs toks k l es → EndsStat toks l → stat_levels (statement i l (stat.Assign (one ∷ others) es)) ≤ left → Formed toks left i (statement i l (stat.Assign (one ∷ others) es))
 assign_form {toks} {left} {i} {j} {k} {l} {one} {others} {es} p first closed targets t values ends level = let levels = lv.assign_levels i l (one ∷ others) es in
     expr_stat left (statement i l (stat.Assign (one ∷ others) es)) (variable_begins first)
-    (reads (record { shape = Variable; expr = one }) (variable_prefix one (variable_read first closed (omega arith)))
+    (reads (record { shape = Variable; expr = one }) (variable_prefix one (read_variable first closed (omega arith)))
     (reads (one ∷ others, j) (record { others = others; begins = refl; targets = record { is = targets; ends = t.there; level = omega arith } })
     (reads k t (reads (es, l) (record { is = values; ends = stat_ends_exprs ends; level = omega arith }) refl))))
 
-call_form : {toks : List Tok} {left i j : ℕ} {e : Expr} → IsCall toks i j e → IsClosed toks j → EndsStat toks j → stat_levels (statement i j (stat.Call e)) ≤ left → Formed toks left i (statement i j (stat.Call e))
+call_form : {toks : List Tok} {left i j : ℕ} {e : Expr} → IsCall toks i j e → NoParenFollows toks j → EndsStat toks j → stat_levels (statement i j (stat.Call e)) ≤ left → Formed toks left i (statement i j (stat.Call e))
 call_form {toks} {left} {i} {j} {e} d closed ends level = let levels = lv.call_levels i j e in
     expr_stat left (statement i j (stat.Call e)) (begins d)
     (reads (record { shape = Call; expr = e }) (subst (λ p. Part (IsCall toks i p e) (begins_suffix toks p ≡ false) (expr_levels e) left) (sym (call_to d)) (record { is = d; ends = stat_ends_prefix toks j ends closed; level = omega arith }))
@@ -338,13 +338,13 @@ local_values_form {toks} {left} {i} {j} {k} {l} {o} {declared} {es} t d u values
 while_form : {toks : List Tok} {left i j k l o p : ℕ} {e : Expr} {body : Block} → IsToken toks i (Word word.While) j → IsExpr toks 1 j k e → IsToken toks k (Word word.Do) l → IsBlock toks l o body → IsToken toks o (Word word.End) p
     → stat_levels (statement i p (stat.While e body)) ≤ left → Formed toks left i (statement i p (stat.While e body))
 while_form {toks} {left} {i} {j} {k} {l} {o} {p} {e} {body} t d u b v level = let levels = lv.while_levels i p e body in
-    word_stat left (statement i p (stat.While e body)) t (reads e (expr_read d (token_closes u.there refl refl refl) (omega arith)) (reads l (moved (expr_to d) u) (reads (body, p) (ended_read b v (omega arith)) refl)))
+    word_stat left (statement i p (stat.While e body)) t (reads e (read_expr d (token_closes u.there refl refl refl) (omega arith)) (reads l (moved (expr_to d) u) (reads (body, p) (read_ended b v (omega arith)) refl)))
 
 repeat_form : {toks : List Tok} {left i j k l o : ℕ} {body : Block} {e : Expr} → IsToken toks i (Word word.Repeat) j → IsBlock toks j k body → IsToken toks k (Word word.Until) l → IsExpr toks 1 l o e → EndsStat toks o
     → stat_levels (statement i o (stat.Repeat body e)) ≤ left → Formed toks left i (statement i o (stat.Repeat body e))
 repeat_form {toks} {left} {i} {j} {k} {l} {o} {body} {e} t b u d ends level = let levels = lv.repeat_levels i o body e in
-    word_stat left (statement i o (stat.Repeat body e)) t (reads (left - 1) (omega arith) (reads body (block_read b (ap ends_block u.there) (omega arith)) (reads l (moved (block_to b) u)
-    (reads e (expr_read d (stat_ends_expr ends) (omega arith)) (ap (λ p. statement i p (stat.Repeat body e)) (sym (expr_to d)))))))
+    word_stat left (statement i o (stat.Repeat body e)) t (reads (left - 1) (omega arith) (reads body (read_block b (ap ends_block u.there) (omega arith)) (reads l (moved (block_to b) u)
+    (reads e (read_expr d (stat_ends_expr ends) (omega arith)) (ap (λ p. statement i p (stat.Repeat body e)) (sym (expr_to d)))))))
 
 if_form : {toks : List Tok} {left i j k l o : ℕ} {arms : List Arm} {last : Option Block} → IsToken toks i (Word word.If) j → AreArms toks j k arms → IsElse toks k l last → IsToken toks l (Word word.End) o
     → stat_levels (statement i o (stat.If arms last)) ≤ left → Formed toks left i (statement i o (stat.If arms last))
@@ -359,8 +359,8 @@ if_form {toks} {left} {i} {j} {k} {l} {o} {arms} {last} t d e u level = let leve
 count_form : {toks : List Tok} {left i l m n o p q r s : ℕ} {first limit : Expr} {step : Option Expr} {body : Block} (name : ℕ) → IsExpr toks 1 l m first → IsToken toks m (Sign sign.Comma) n → IsExpr toks 1 n o limit → IsForStep toks o p step
     → IsToken toks p (Word word.Do) q → IsBlock toks q r body → IsToken toks r (Word word.End) s → stat_levels (statement i s (stat.For name first limit step body)) ≤ left → ReadCount toks left i name l (statement i s (stat.For name first limit step body))
 count_form {toks} {left} {i} {l} {m} {n} {o} {p} {q} {r} {s} {first} {limit} {step} {body} name a t b c u d v level = let levels = lv.for_levels i s name first limit step body in
-    reads first (expr_read a (token_closes t.there refl refl refl) (omega arith)) (reads n (moved (expr_to a) t) (reads limit (expr_read b (closes c) (omega arith))
-    (reads (step, p) (subst (λ z. ReadForStep toks left z (step, p)) (sym (expr_to b)) (record { is = c; ends = u.there; level = omega arith })) (reads q u (reads (body, s) (ended_read d v (omega arith)) refl)))))
+    reads first (read_expr a (token_closes t.there refl refl refl) (omega arith)) (reads n (moved (expr_to a) t) (reads limit (read_expr b (closes c) (omega arith))
+    (reads (step, p) (subst (λ z. ReadForStep toks left z (step, p)) (sym (expr_to b)) (record { is = c; ends = u.there; level = omega arith })) (reads q u (reads (body, s) (read_ended d v (omega arith)) refl)))))
   where
     closes : {o : ℕ} {step : Option Expr} → IsForStep toks o p step → EndsExpr toks 1 o
     closes g.no_for_step = token_closes u.there refl refl refl
@@ -376,7 +376,7 @@ for_in_form : {toks : List Tok} {left i j k l o p q r : ℕ} {names : List ℕ} 
 for_in_form {toks} {left} {i} {j} {k} {l} {o} {p} {q} {r} {names} {es} {body} t d u values v b w level = let levels = lv.for_in_levels i r names es body in word_stat left (statement i r (stat.ForIn names es body)) t (record {
   count = λ from z. absurd (names_assigned d u z.name z.sign);
   names = λ none. reads (names, k) (record { is = d; ends = λ comma. let here = u.there in absurd cc; level = omega arith }) (reads l u
-      (reads (es, o) (record { is = values; ends = record { expr = token_closes v.there refl refl refl; comma = λ comma. let here = v.there in absurd cc }; level = omega arith }) (reads p v (reads (body, r) (ended_read b w (omega arith)) refl))));
+      (reads (es, o) (record { is = values; ends = record { expr = token_closes v.there refl refl refl; comma = λ comma. let here = v.there in absurd cc }; level = omega arith }) (reads p v (reads (body, r) (read_ended b w (omega arith)) refl))));
 })
 
 pub body_begins : {toks : List Tok} {i j : ℕ} {f : FuncBody} → IsFuncBody toks i j f → At toks i (Sign sign.LeftParen)
@@ -391,13 +391,13 @@ function_form : {toks : List Tok} {left i j k l o : ℕ} {path : List ℕ} {meth
     → stat_levels (statement i o (stat.Function path method f)) ≤ left → Formed toks left i (statement i o (stat.Function path method f))
 function_form {toks} {left} {i} {j} {k} {l} {o} {path} {method} {f} t d m b level = let levels = lv.function_stat_levels i o path method f in
     word_stat left (statement i o (stat.Function path method f)) t (reads (left - 1) (omega arith) (reads (path, k) (record { is = d; ends = method_no_dot m (body_begins b); level = omega arith })
-    (reads (method, l) (record { is = m; ends = body_begins b; level = omega arith }) (reads f (body_read b (omega arith)) (ap (λ p. statement i p (stat.Function path method f)) (sym (body_to b)))))))
+    (reads (method, l) (record { is = m; ends = body_begins b; level = omega arith }) (reads f (read_body b (omega arith)) (ap (λ p. statement i p (stat.Function path method f)) (sym (body_to b)))))))
 
 local_function_form : {toks : List Tok} {left i j k l o : ℕ} {f : FuncBody} → IsToken toks i (Word word.Local) j → IsToken toks j (Word word.Function) k → IsToken toks k Name l → IsFuncBody toks l o f
     → stat_levels (statement i o (stat.LocalFunction k f)) ≤ left → Formed toks left i (statement i o (stat.LocalFunction k f))
 local_function_form {toks} {left} {i} {j} {k} {l} {o} {f} t u n b level = let levels = lv.local_function_levels i o k f in word_stat left (statement i o (stat.LocalFunction k f)) t (record {
   function = λ name v. subst (λ p. ReadLocalFunction toks left i p (statement i o (stat.LocalFunction k f))) (same_end u v)
-      (reads (left - 1) (omega arith) (reads l n (reads f (body_read b (omega arith)) (ap (λ p. statement i p (stat.LocalFunction k f)) (sym (body_to b))))));
+      (reads (left - 1) (omega arith) (reads l n (reads f (read_body b (omega arith)) (ap (λ p. statement i p (stat.LocalFunction k f)) (sym (body_to b))))));
   named = λ other. absurd (other u.there);
 })
 
@@ -411,7 +411,7 @@ stat_form {toks} {left} {i} s h = form (out-Stat s).to s h.is h.ends h.level
     form _ _ (g.assign_stat (g.one_target d) t values) ends level = assign_form _ d (ap token_begins_suffix t.there) (g.one_target d) t values ends level
     form _ _ (g.assign_stat (g.more_targets d u rest) t values) ends level = assign_form _ d (ap token_begins_suffix u.there) (g.more_targets d u rest) t values ends level
     form _ _ (g.call_stat d closed) ends level = call_form d closed ends level
-    form l _ (g.do_stat {body = body} t d u) ends level = word_stat left (statement i l (stat.Do body)) t (reads (body, l) (ended_read d u (omega (arith, lv.do_levels i l body))) refl)
+    form l _ (g.do_stat {body = body} t d u) ends level = word_stat left (statement i l (stat.Do body)) t (reads (body, l) (read_ended d u (omega (arith, lv.do_levels i l body))) refl)
     form _ _ (g.while_stat t d u b v) ends level = while_form t d u b v level
     form _ _ (g.repeat_stat t b u d) ends level = repeat_form t b u d ends level
     form _ _ (g.if_stat t d e u) ends level = if_form t d e u level

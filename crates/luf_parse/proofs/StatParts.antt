@@ -6,19 +6,19 @@ use Rattle.luf_lex.specs.declared.token.Tok.TheVariants.{Name, Word, Sign}
 use Rattle.luf_lex.specs.declared.token.Word.TheVariants as word
 use Rattle.luf_lex.specs.declared.token.Sign.TheVariants as sign
 use Rattle.luf_tree.specs.declared.tree.Declared.{Declared}
-use Rattle.luf_tree.specs.declared.tree.Block.{Block}
+use Rattle.luf_tree.specs.declared.tree.Block.{Block, out-Block}
 use Rattle.luf_tree.specs.declared.tree.StatKind.TheVariants as stat
 use Rattle.luf_tree.specs.declared.tree.Arm.{Arm, roll-Arm}
 use Rattle.luf_tree.specs.declared.tree.FuncBody.{FuncBody}
 use Rattle.luf_tree.specs.declared.tree.Expr.{Expr}
 use Rattle.luf_tree.specs.Level.{deepest, if_there, block_if_there, expr_levels, block_levels, stat_levels, arm_levels, body_levels}
 use Rattle.luf_tree.specs.Grammar as g
-use Rattle.luf_tree.specs.Grammar.{expression, statement, IsToken, IsString, IsClosed, IsExpr, AreSteps, IsOperand, IsSimple, IsPrefix, IsVariable, IsCall, IsParen, IsHead, AreSuffixes, IsSuffix, IsArgs, AreExprs, IsTable, AreFields, IsField, IsFuncBody, IsBlock, AreStats, IsReturn, IsStat, AreTargets, IsArm, AreArms, IsElse, IsForStep, IsSemicolon, AreNames, AreParams, AreDeclared, IsPath, IsMethod}
+use Rattle.luf_tree.specs.Grammar.{expression, statement, IsToken, IsString, NoParenFollows, IsExpr, AreSteps, IsOperand, IsSimple, IsPrefix, IsVariable, IsCall, IsParen, IsHead, AreSuffixes, IsSuffix, IsArgs, AreExprs, IsTable, AreFields, IsField, IsFuncBody, IsBlock, AreStats, IsReturn, IsStat, AreTargets, IsArm, AreArms, IsElse, IsForStep, IsSemicolon, AreNames, AreParams, AreDeclared, IsPath, IsMethod}
 use Rattle.luf_tree.proofs.LevelEquations as lv
-use Rattle.luf_parse.specs.Reads.{Found}
+use Rattle.luf_parse.specs.inner.Reads.{Found}
 use Rattle.luf_parse.specs.declared.prefixes.Shape.{Shape}
 use Rattle.luf_parse.specs.declared.prefixes.Shape.TheVariants as shape
-use Rattle.luf_parse.specs.Shapes.{IsShaped}
+use Rattle.luf_parse.specs.inner.Shapes.{IsShaped}
 
 pub break_found : {toks : List Tok} {i j left : ℕ}
     → IsToken toks i (Word word.Break) j
@@ -33,6 +33,18 @@ pub empty_found : {toks : List Tok} {i j left : ℕ}
     → Found toks (i + 1) j left (stat_levels (statement i j (stat.Empty))) (IsStat toks i j (statement i j (stat.Empty)))
 empty_found {toks} {i} {j} {left} t w =
     let n = t.next in record { derived = g.empty_stat t; forward = omega arith; within = omega arith; level = omega (arith, lv.empty_levels i j) }
+
+-- a block that a token enters, and its `end`
+pub ended_found : {toks : List Tok} {i k left inner : ℕ} {body box : Block}
+    → left ≡ inner + 1
+    → Found toks i (out-Block body).to inner (block_levels body) (IsBlock toks i (out-Block body).to body)
+    → IsToken toks (out-Block body).to (Word word.End) k
+    → k ≤ length toks
+    → box ≡ body
+    → Found toks (i + 1) k left (block_levels box + 1) (IsBlock toks i (out-Block box).to box × IsToken toks (out-Block box).to (Word word.End) k)
+ended_found {toks} {i} {k} {left} {inner} {body} {box} lev h t w e0 =
+    subst (λ (z : Block). Found toks (i + 1) k left (block_levels z + 1) (IsBlock toks i (out-Block z).to z × IsToken toks (out-Block z).to (Word word.End) k)) (sym e0)
+    (let n = t.next in record { derived = (h.derived, t); forward = omega arith; within = w; level = omega arith })
 
 pub do_found : {toks : List Tok} {i j k l left : ℕ} {body : Block}
     → IsToken toks i (Word word.Do) j
@@ -79,20 +91,24 @@ pub arm_found : {toks : List Tok} {i j k l left inner : ℕ} {e : Expr} {body : 
 arm_found {toks} {i} {j} {k} {l} {left} {inner} {e} {body} h t lev h2 =
     let n = t.next in record { derived = g.arm h.derived t h2.derived; forward = omega arith; within = omega arith; level = omega (arith, lv.arm_of_levels e body) }
 
-pub else_found : {toks : List Tok} {i j k left inner : ℕ} {body : Block}
+pub else_found : {toks : List Tok} {i j k left inner : ℕ} {body : Block} {box : Block}
     → IsToken toks i (Word word.Else) j
     → left ≡ inner + 1
     → Found toks j k inner (block_levels body) (IsBlock toks j k body)
-    → Found toks i k left (block_levels body + 1) (IsElse toks i k (Some body))
-else_found {toks} {i} {j} {k} {left} {inner} {body} t lev h =
-    let n = t.next in record { derived = g.an_else t h.derived; forward = omega arith; within = omega arith; level = omega arith }
+    → box ≡ body
+    → Found toks i k left (block_levels box + 1) (IsElse toks i k (Some box))
+else_found {toks} {i} {j} {k} {left} {inner} {body} {box} t lev h e0 =
+    subst (λ (z : Block). Found toks i k left (block_levels z + 1) (IsElse toks i k (Some z))) (sym e0)
+    (let n = t.next in record { derived = g.an_else t h.derived; forward = omega arith; within = omega arith; level = omega arith })
 
-pub for_step_found : {toks : List Tok} {i j k left : ℕ} {e : Expr}
+pub for_step_found : {toks : List Tok} {i j k left : ℕ} {e : Expr} {box : Expr}
     → IsToken toks i (Sign sign.Comma) j
     → Found toks (j + 1) k left (expr_levels e) (IsExpr toks 1 j k e)
-    → Found toks i k left (expr_levels e) (IsForStep toks i k (Some e))
-for_step_found {toks} {i} {j} {k} {left} {e} t h =
-    let n = t.next in record { derived = g.a_for_step t h.derived; forward = omega arith; within = omega arith; level = omega arith }
+    → box ≡ e
+    → Found toks i k left (expr_levels box) (IsForStep toks i k (Some box))
+for_step_found {toks} {i} {j} {k} {left} {e} {box} t h e0 =
+    subst (λ (z : Expr). Found toks i k left (expr_levels z) (IsForStep toks i k (Some z))) (sym e0)
+    (let n = t.next in record { derived = g.a_for_step t h.derived; forward = omega arith; within = omega arith; level = omega arith })
 
 pub for_in_found : {toks : List Tok} {i j k l o p q r left : ℕ} {es : List Expr} {names : List ℕ} {body : Block}
     → IsToken toks i (Word word.For) j
@@ -159,7 +175,7 @@ local_values_found {toks} {i} {j} {k} {l} {o} {left} {declared} {es} t h t2 h2 =
 
 pub call_stat_found : {toks : List Tok} {i j left : ℕ} {e : Expr}
     → Found toks (i + 1) j left (expr_levels e) (IsCall toks i j e)
-    → IsClosed toks j
+    → NoParenFollows toks j
     → Found toks (i + 1) j left (stat_levels (statement i j (stat.Call e))) (IsStat toks i j (statement i j (stat.Call e)))
 call_stat_found {toks} {i} {j} {left} {e} h closed =
     record { derived = g.call_stat h.derived closed; forward = omega arith; within = omega arith; level = omega (arith, lv.call_levels i j e) }
@@ -172,7 +188,7 @@ pub assign_found : {toks : List Tok} {i j k l left : ℕ} {targets es : List Exp
 assign_found {toks} {i} {j} {k} {l} {left} {targets} {es} h t h2 =
     let n = t.next in record { derived = g.assign_stat h.derived t h2.derived; forward = omega arith; within = omega arith; level = omega (arith, lv.assign_levels i l targets es) }
 
-pub call_shaped : {toks : List Tok} {i j left : ℕ} {e : Expr} (s : Shape) → s ≡ shape.Call → Found toks (i + 1) j left (expr_levels e) (IsShaped toks i j s e) → IsClosed toks j
+pub call_shaped : {toks : List Tok} {i j left : ℕ} {e : Expr} (s : Shape) → s ≡ shape.Call → Found toks (i + 1) j left (expr_levels e) (IsShaped toks i j s e) → NoParenFollows toks j
     → Found toks (i + 1) j left (stat_levels (statement i j (stat.Call e))) (IsStat toks i j (statement i j (stat.Call e)))
 call_shaped {toks} {i} {j} {left} {e} s is h closed =
     call_stat_found (record { derived = subst (λ (z : Shape). IsShaped toks i j z e) is h.derived; forward = h.forward; within = h.within; level = h.level }) closed

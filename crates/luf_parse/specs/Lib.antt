@@ -1,6 +1,3 @@
+-- Why tokens form no tree. What stands in `inner` only private functions cite.
 pub mod Cause
-pub mod Exact
-pub mod Follow
-pub mod Parts
-pub mod Reads
-pub mod Shapes
+pub mod inner

@@ -7,29 +7,28 @@ ghost use Rattle.luf_tree.specs.declared.tree.Stat.{out-Stat};
 ghost use Rattle.luf_tree.specs.declared.tree.FuncBody.{out-FuncBody};
 ghost use Rattle.luf_tree.specs.Grammar.{IsToken, IsFuncBody, IsBlock, IsReturn, IsSemicolon};
 ghost use Rattle.luf_tree.specs.Level.{stat_levels, block_levels, body_levels};
-ghost use Rattle.luf_parse.specs.Reads.{IsRefusal, Found};
-ghost use Rattle.luf_parse.specs.Exact.{Alone, Refutes};
-ghost use Rattle.luf_parse.specs.Follow.{stops_stats, ends_return};
-ghost use Rattle.luf_parse.specs.Parts.{ReadBlock, ReadEnded, ReadFuncBody, ReadReturn, ReadSemicolon};
+ghost use Rattle.luf_parse.specs.inner.Reads.{Found};
+ghost use Rattle.luf_parse.specs.inner.Exact.{Alone, Refutes};
+ghost use Rattle.luf_parse.specs.inner.Follow.{stops_stats, ends_return};
+ghost use Rattle.luf_parse.specs.inner.Parts.{ReadBlock, ReadEnded, ReadFuncBody, ReadReturn, ReadSemicolon};
 
 use crate::ParseErr;
 use crate::expressions::exprs;
+use crate::growing::Growing;
 use crate::names::params;
 use crate::statements::stat;
 use crate::tokens::{eat, enter, expect};
 use luf_lex::{Cut, Sign, Tok, Word};
 use luf_tree::{Block, FuncBody, Stat, StatKind};
-use sqlite_items::Items;
+use sqlite_items::{Boxed, Items};
 use std::alloc::Global;
 
 /// A function from the `(` of its parameters to its `end`.
 #[cycle(parse)]
 pub fn func_body(alloc: Global, cut: &Cut, left: u32, at: u32) -> Result<FuncBody, ParseErr>
-    requires { left ≤ 200 }
     ensures ok { IfOk result (λ f. Found (toks_of cut.now) (at + 1) (out-FuncBody f).to left (body_levels f) (IsFuncBody (toks_of cut.now) at (out-FuncBody f).to f)) }
-    ensures err { IfErr result (IsRefusal (toks_of cut.now)) }
     ensures only { IfOk result (Alone (ReadFuncBody (toks_of cut.now) left at)) }
-    ensures none { IfErr result (Refutes (ReadFuncBody (toks_of cut.now) left at)) }
+    ensures none { IfErr result (Refutes (toks_of cut.now) (ReadFuncBody (toks_of cut.now) left at)) }
 {
     let first = expect(cut, at, Tok::Sign(Sign::LeftParen))?;
     let (params, vararg, close) = params(alloc, cut, first)?;
@@ -48,14 +47,12 @@ pub fn func_body(alloc: Global, cut: &Cut, left: u32, at: u32) -> Result<FuncBod
 /// The statements up to the end of a block.
 #[cycle(parse)]
 pub fn block(alloc: Global, cut: &Cut, left: u32, at: u32) -> Result<Block, ParseErr>
-    requires left { left ≤ 200 }
     requires within { at ≤ length (toks_of cut.now) }
     ensures ok { IfOk result (λ b. Found (toks_of cut.now) at (out-Block b).to left (block_levels b) (IsBlock (toks_of cut.now) at (out-Block b).to b)) }
-    ensures err { IfErr result (IsRefusal (toks_of cut.now)) }
     ensures only { IfOk result (Alone (ReadBlock (toks_of cut.now) left at)) }
-    ensures none { IfErr result (Refutes (ReadBlock (toks_of cut.now) left at)) }
+    ensures none { IfErr result (Refutes (toks_of cut.now) (ReadBlock (toks_of cut.now) left at)) }
 {
-    let mut stats = Items::new(alloc);
+    let mut stats = Growing::new(alloc);
     let mut to = at;
     while !ends_block(cut, to) {
         let one = stat(alloc, cut, left, to)?;
@@ -69,13 +66,13 @@ pub fn block(alloc: Global, cut: &Cut, left: u32, at: u32) -> Result<Block, Pars
         return Ok(Block {
             from: at,
             to: end,
-            stats,
+            stats: stats.exact(),
         });
     }
     Ok(Block {
         from: at,
         to,
-        stats,
+        stats: stats.exact(),
     })
 }
 
@@ -92,11 +89,9 @@ fn ends_block(cut: &Cut, at: u32) -> bool
 /// `'return' [explist] [';']`.
 #[cycle(parse)]
 fn last(alloc: Global, cut: &Cut, left: u32, at: u32) -> Result<Stat, ParseErr>
-    requires { left ≤ 200 }
     ensures ok { IfOk result (λ s. Found (toks_of cut.now) (at + 1) (out-Stat s).to left (stat_levels s) (IsReturn (toks_of cut.now) at (out-Stat s).to s)) }
-    ensures err { IfErr result (IsRefusal (toks_of cut.now)) }
     ensures only { IfOk result (Alone (ReadReturn (toks_of cut.now) left at)) }
-    ensures none { IfErr result (Refutes (ReadReturn (toks_of cut.now) left at)) }
+    ensures none { IfErr result (Refutes (toks_of cut.now) (ReadReturn (toks_of cut.now) left at)) }
 {
     let next = expect(cut, at, Tok::Word(Word::Return))?;
     if ends_return(cut, next) {
@@ -147,16 +142,14 @@ pub fn ended_block(
     left: u32,
     opener: u32,
     from: u32,
-) -> Result<(Block, u32), ParseErr>
-    requires left { left ≤ 200 }
+) -> Result<(Boxed<Block>, u32), ParseErr>
     requires within { from ≤ length (toks_of cut.now) }
     ensures ok { IfOk result (λ r. Found (toks_of cut.now) (from + 1) r.1 left (block_levels r.0 + 1) (IsBlock (toks_of cut.now) from (out-Block r.0).to r.0 × IsToken (toks_of cut.now) (out-Block r.0).to (Tok.Word word.End) r.1)) }
-    ensures err { IfErr result (IsRefusal (toks_of cut.now)) }
     ensures only { IfOk result (Alone (ReadEnded (toks_of cut.now) left from)) }
-    ensures none { IfErr result (Refutes (ReadEnded (toks_of cut.now) left from)) }
+    ensures none { IfErr result (Refutes (toks_of cut.now) (ReadEnded (toks_of cut.now) left from)) }
 {
     let inner = enter(cut, left, opener)?;
     let body = block(alloc, cut, inner, from)?;
     let to = expect(cut, body.to, Tok::Word(Word::End))?;
-    Ok((body, to))
+    Ok((Boxed::new(alloc, body)?, to))
 }

@@ -2,12 +2,12 @@
 use luf_memory::Memory;
 use std::alloc::AllocError;
 
-/// Why the tokens form no tree, or none that is nested at most 200 levels deep.
+/// Why no tree was made of the tokens: there is none that is nested at most 200 levels deep, or no memory was found.
 #[derive(Clone, Copy, Debug, PartialEq, Eq)]
 pub enum ParseErr {
-    /// The grammar does not go on with this token; the number of tokens stands for the end of the source.
+    /// There is no such tree. `token` is one of the tokens, or their number for the end.
     Syntax { token: u32 },
-    /// This token enters level 201.
+    /// The same. Which of the two words is answered, and at which token, no clause says.
     TooDeep { token: u32 },
     /// No memory was found.
     Memory,

@@ -5,45 +5,44 @@ ghost use Rattle.luf_lex.specs.declared.token.Word.TheVariants as word;
 ghost use Rattle.luf_tree.specs.declared.tree.Expr.{out-Expr};
 ghost use Rattle.luf_tree.specs.Grammar.{IsToken, IsExpr, IsOperand, IsSimple, AreExprs};
 ghost use Rattle.luf_tree.specs.Level.{deepest, expr_levels};
-ghost use Rattle.luf_parse.specs.Reads as reads;
-ghost use Rattle.luf_parse.specs.Reads.{IsRefusal, Found};
-ghost use Rattle.luf_parse.specs.Shapes.{IsLeaf, leaf_kind};
-ghost use Rattle.luf_parse.specs.Exact.{Alone, Refutes};
-ghost use Rattle.luf_parse.specs.Parts.{ReadChain, ReadExpr, ReadExprs, ReadFunction, ReadOperand, ReadPower, ReadSimple};
+ghost use Rattle.luf_parse.specs.inner.Follow as follow;
+ghost use Rattle.luf_parse.specs.inner.Reads.{Found};
+ghost use Rattle.luf_parse.specs.inner.Shapes.{IsLeaf, leaf_kind};
+ghost use Rattle.luf_parse.specs.inner.Exact.{Alone, Refutes};
+ghost use Rattle.luf_parse.specs.inner.Parts.{ReadChain, ReadExpr, ReadExprs, ReadFunction, ReadOperand, ReadPower, ReadSimple};
 
-use crate::ParseErr;
 use crate::blocks::func_body;
+use crate::growing::Growing;
 use crate::prefixes::prefix;
 use crate::tables::table_expr;
-use crate::tokens::{eat, enter, is_unary, level_at, refusal, take};
+use crate::tokens::{eat, enter, is_unary, precedence_at, refusal, take};
+use crate::{ParseErr, made};
 use luf_lex::{Cut, Sign, Tok, Word};
 use luf_tree::{Expr, ExprKind, Step};
-use sqlite_items::{Boxed, Items};
+use sqlite_items::Items;
 use std::alloc::Global;
 
-/// An expression whose binary operators are of level `least` or a higher one.
+/// An expression whose binary operators are of precedence `least` or a higher one.
 #[cycle(parse)]
 pub fn expr(alloc: Global, cut: &Cut, left: u32, at: u32, least: u8) -> Result<Expr, ParseErr>
     requires low { 0 < least }
     requires high { least ≤ 11 }
-    requires left { left ≤ 200 }
     ensures ok { IfOk result (λ e. Found (toks_of cut.now) (at + 1) (out-Expr e).to left (expr_levels e) (IsExpr (toks_of cut.now) least at (out-Expr e).to e)) }
-    ensures ends { IfOk result (λ e. reads.level_at (toks_of cut.now) (out-Expr e).to < least) }
-    ensures err { IfErr result (IsRefusal (toks_of cut.now)) }
+    ensures ends { IfOk result (λ e. follow.precedence_at (toks_of cut.now) (out-Expr e).to < least) }
     ensures only { IfOk result (Alone (ReadExpr (toks_of cut.now) least left at)) }
-    ensures none { IfErr result (Refutes (ReadExpr (toks_of cut.now) least left at)) }
+    ensures none { IfErr result (Refutes (toks_of cut.now) (ReadExpr (toks_of cut.now) least left at)) }
 {
     let mut whole = operand(alloc, cut, left, at)?;
-    'levels: loop {
-        let level = level_at(cut, whole.to);
-        if level < least {
+    'chains: loop {
+        let precedence = precedence_at(cut, whole.to);
+        if precedence < least {
             return Ok(whole);
         }
-        whole = chain(alloc, cut, left, at, whole, level)?;
+        whole = chain(alloc, cut, left, at, whole, precedence)?;
     }
 }
 
-/// A chain of operators of one level, the first of which stands behind `first`.
+/// A chain of operators of one precedence, the first of which stands behind `first`.
 #[cycle(parse)]
 fn chain(
     alloc: Global,
@@ -51,37 +50,28 @@ fn chain(
     left: u32,
     at: u32,
     first: Expr,
-    level: u8,
+    precedence: u8,
 ) -> Result<Expr, ParseErr>
-    requires low { 0 < level }
-    requires high { level ≤ 10 }
-    requires left { left ≤ 200 }
-    requires first { Found (toks_of cut.now) (at + 1) (out-Expr first).to left (expr_levels first) (IsExpr (toks_of cut.now) (level + 1) at (out-Expr first).to first) }
-    requires next { reads.level_at (toks_of cut.now) (out-Expr first).to ≡ level }
-    ensures ok { IfOk result (λ e. Found (toks_of cut.now) (at + 1) (out-Expr e).to left (expr_levels e) (IsExpr (toks_of cut.now) level at (out-Expr e).to e)) }
-    ensures ends { IfOk result (λ e. reads.level_at (toks_of cut.now) (out-Expr e).to < level) }
-    ensures err { IfErr result (IsRefusal (toks_of cut.now)) }
-    ensures only { IfOk result (Alone (ReadChain (toks_of cut.now) level left at first)) }
-    ensures none { IfErr result (Refutes (ReadChain (toks_of cut.now) level left at first)) }
+    requires low { 0 < precedence }
+    requires high { precedence ≤ 10 }
+    requires first { Found (toks_of cut.now) (at + 1) (out-Expr first).to left (expr_levels first) (IsExpr (toks_of cut.now) (precedence + 1) at (out-Expr first).to first) }
+    requires next { follow.precedence_at (toks_of cut.now) (out-Expr first).to ≡ precedence }
+    ensures ok { IfOk result (λ e. Found (toks_of cut.now) (at + 1) (out-Expr e).to left (expr_levels e) (IsExpr (toks_of cut.now) precedence at (out-Expr e).to e)) }
+    ensures ends { IfOk result (λ e. follow.precedence_at (toks_of cut.now) (out-Expr e).to < precedence) }
+    ensures only { IfOk result (Alone (ReadChain (toks_of cut.now) precedence left at first)) }
+    ensures none { IfErr result (Refutes (toks_of cut.now) (ReadChain (toks_of cut.now) precedence left at first)) }
 {
-    let mut rest = Items::new(alloc);
+    let mut rest = Growing::new(alloc);
     let mut sign = first.to;
     loop {
         let Some((_, next)) = take(cut, sign) else {
             return Err(refusal(cut, sign));
         };
-        let right = expr(alloc, cut, left, next, level + 1)?;
+        let right = expr(alloc, cut, left, next, precedence + 1)?;
         let to = right.to;
         rest.push(Step { sign, right })?;
-        if level_at(cut, to) != level {
-            return Ok(Expr {
-                from: at,
-                to,
-                what: ExprKind::Chain {
-                    first: Boxed::new(alloc, first)?,
-                    rest,
-                },
-            });
+        if precedence_at(cut, to) != precedence {
+            return made::chain(alloc, at, to, first, rest.exact());
         }
         sign = to;
     }
@@ -90,11 +80,9 @@ fn chain(
 /// What stands between binary operators.
 #[cycle(parse)]
 fn operand(alloc: Global, cut: &Cut, left: u32, at: u32) -> Result<Expr, ParseErr>
-    requires { left ≤ 200 }
     ensures ok { IfOk result (λ e. Found (toks_of cut.now) (at + 1) (out-Expr e).to left (expr_levels e) (IsOperand (toks_of cut.now) at (out-Expr e).to e)) }
-    ensures err { IfErr result (IsRefusal (toks_of cut.now)) }
     ensures only { IfOk result (Alone (ReadOperand (toks_of cut.now) left at)) }
-    ensures none { IfErr result (Refutes (ReadOperand (toks_of cut.now) left at)) }
+    ensures none { IfErr result (Refutes (toks_of cut.now) (ReadOperand (toks_of cut.now) left at)) }
 {
     let Some((tok, next)) = take(cut, at) else {
         return Err(refusal(cut, at));
@@ -102,11 +90,7 @@ fn operand(alloc: Global, cut: &Cut, left: u32, at: u32) -> Result<Expr, ParseEr
     if is_unary(tok) {
         let inner = enter(cut, left, at)?;
         let operand = operand(alloc, cut, inner, next)?;
-        return Ok(Expr {
-            from: at,
-            to: operand.to,
-            what: ExprKind::Unary(Boxed::new(alloc, operand)?),
-        });
+        return made::unary(alloc, at, operand);
     }
     power(alloc, cut, left, at)
 }
@@ -114,11 +98,9 @@ fn operand(alloc: Global, cut: &Cut, left: u32, at: u32) -> Result<Expr, ParseEr
 /// A simple expression, or its power.
 #[cycle(parse)]
 fn power(alloc: Global, cut: &Cut, left: u32, at: u32) -> Result<Expr, ParseErr>
-    requires { left ≤ 200 }
     ensures ok { IfOk result (λ e. Found (toks_of cut.now) (at + 1) (out-Expr e).to left (expr_levels e) (IsOperand (toks_of cut.now) at (out-Expr e).to e)) }
-    ensures err { IfErr result (IsRefusal (toks_of cut.now)) }
     ensures only { IfOk result (Alone (ReadPower (toks_of cut.now) left at)) }
-    ensures none { IfErr result (Refutes (ReadPower (toks_of cut.now) left at)) }
+    ensures none { IfErr result (Refutes (toks_of cut.now) (ReadPower (toks_of cut.now) left at)) }
 {
     let base = simple(alloc, cut, left, at)?;
     let sign = base.to;
@@ -127,25 +109,15 @@ fn power(alloc: Global, cut: &Cut, left: u32, at: u32) -> Result<Expr, ParseErr>
     };
     let inner = enter(cut, left, sign)?;
     let exponent = operand(alloc, cut, inner, next)?;
-    Ok(Expr {
-        from: at,
-        to: exponent.to,
-        what: ExprKind::Power {
-            base: Boxed::new(alloc, base)?,
-            sign,
-            exponent: Boxed::new(alloc, exponent)?,
-        },
-    })
+    made::power(alloc, at, base, sign, exponent)
 }
 
 /// An expression without operators.
 #[cycle(parse)]
 fn simple(alloc: Global, cut: &Cut, left: u32, at: u32) -> Result<Expr, ParseErr>
-    requires { left ≤ 200 }
     ensures ok { IfOk result (λ e. Found (toks_of cut.now) (at + 1) (out-Expr e).to left (expr_levels e) (IsSimple (toks_of cut.now) at (out-Expr e).to e)) }
-    ensures err { IfErr result (IsRefusal (toks_of cut.now)) }
     ensures only { IfOk result (Alone (ReadSimple (toks_of cut.now) left at)) }
-    ensures none { IfErr result (Refutes (ReadSimple (toks_of cut.now) left at)) }
+    ensures none { IfErr result (Refutes (toks_of cut.now) (ReadSimple (toks_of cut.now) left at)) }
 {
     let Some((tok, to)) = take(cut, at) else {
         return Err(refusal(cut, at));
@@ -183,20 +155,14 @@ fn leaf(tok: Tok) -> Option<ExprKind>
 /// `function` and a body.
 #[cycle(parse)]
 fn function(alloc: Global, cut: &Cut, left: u32, at: u32, next: u32) -> Result<Expr, ParseErr>
-    requires left { left ≤ 200 }
     requires word { IsToken (toks_of cut.now) at (Tok.Word word.Function) next }
     ensures ok { IfOk result (λ e. Found (toks_of cut.now) (at + 1) (out-Expr e).to left (expr_levels e) (IsSimple (toks_of cut.now) at (out-Expr e).to e)) }
-    ensures err { IfErr result (IsRefusal (toks_of cut.now)) }
     ensures only { IfOk result (Alone (ReadFunction (toks_of cut.now) left at next)) }
-    ensures none { IfErr result (Refutes (ReadFunction (toks_of cut.now) left at next)) }
+    ensures none { IfErr result (Refutes (toks_of cut.now) (ReadFunction (toks_of cut.now) left at next)) }
 {
     let inner = enter(cut, left, at)?;
     let body = func_body(alloc, cut, inner, next)?;
-    Ok(Expr {
-        from: at,
-        to: body.to,
-        what: ExprKind::Function(Boxed::new(alloc, body)?),
-    })
+    made::function(alloc, at, body)
 }
 
 /// `exp {',' exp}`, and the place after it.
@@ -207,20 +173,18 @@ pub fn exprs(
     left: u32,
     mut at: u32,
 ) -> Result<(Items<Expr>, u32), ParseErr>
-    requires { left ≤ 200 }
     ensures ok { IfOk result (λ r. Found (toks_of cut.now) (at + 1) r.1 left (deepest (map expr_levels r.0)) (AreExprs (toks_of cut.now) at r.1 r.0)) }
-    ensures err { IfErr result (IsRefusal (toks_of cut.now)) }
     ensures only { IfOk result (Alone (ReadExprs (toks_of cut.now) left at)) }
-    ensures none { IfErr result (Refutes (ReadExprs (toks_of cut.now) left at)) }
+    ensures none { IfErr result (Refutes (toks_of cut.now) (ReadExprs (toks_of cut.now) left at)) }
 {
-    let mut found = Items::new(alloc);
+    let mut found = Growing::new(alloc);
     loop {
         let one = expr(alloc, cut, left, at, 1)?;
         let to = one.to;
         found.push(one)?;
         match eat(cut, to, Tok::Sign(Sign::Comma)) {
             Some(next) => at = next,
-            None => return Ok((found, to)),
+            None => return Ok((found.exact(), to)),
         }
     }
 }

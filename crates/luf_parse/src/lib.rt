@@ -7,14 +7,14 @@ mod assignments;
 mod blocks;
 mod error;
 mod expressions;
+mod growing;
 mod laws;
 mod loops;
+mod made;
 mod names;
 mod prefixes;
 mod statements;
 mod tables;
-#[cfg(test)]
-mod tests;
 mod tokens;
 mod whole;
 

@@ -6,30 +6,29 @@ ghost use Rattle.luf_lex.specs.declared.token.Word.TheVariants as word;
 ghost use Rattle.luf_tree.specs.declared.tree.Stat.{out-Stat};
 ghost use Rattle.luf_tree.specs.Grammar.{IsToken, IsStat, IsForStep};
 ghost use Rattle.luf_tree.specs.Level.{expr_levels, stat_levels, if_there};
-ghost use Rattle.luf_parse.specs.Reads.{IsRefusal, Found};
-ghost use Rattle.luf_parse.specs.Exact.{Alone, Refutes};
-ghost use Rattle.luf_parse.specs.Follow.{IsAssigned};
-ghost use Rattle.luf_parse.specs.Parts.{ReadCount, ReadFor, ReadForStep};
+ghost use Rattle.luf_parse.specs.inner.Reads.{Found};
+ghost use Rattle.luf_parse.specs.inner.Exact.{Alone, Refutes};
+ghost use Rattle.luf_parse.specs.inner.Follow.{IsAssigned};
+ghost use Rattle.luf_parse.specs.inner.Parts.{ReadCount, ReadFor, ReadForStep};
 
-use crate::ParseErr;
 use crate::blocks::ended_block;
 use crate::expressions::{expr, exprs};
 use crate::names::names;
 use crate::tables::assigned;
 use crate::tokens::{eat, expect};
+use crate::{ParseErr, made};
 use luf_lex::{Cut, Sign, Tok, Word};
-use luf_tree::{Expr, Stat, StatKind};
+use luf_tree::{Expr, Stat};
+use sqlite_items::Boxed;
 use std::alloc::Global;
 
 /// A `for` statement behind its `for`.
 #[cycle(parse)]
 pub fn for_stat(alloc: Global, cut: &Cut, left: u32, at: u32, next: u32) -> Result<Stat, ParseErr>
-    requires left { left ≤ 200 }
     requires word { IsToken (toks_of cut.now) at (Tok.Word word.For) next }
     ensures ok { IfOk result (λ s. Found (toks_of cut.now) (at + 1) (out-Stat s).to left (stat_levels s) (IsStat (toks_of cut.now) at (out-Stat s).to s)) }
-    ensures err { IfErr result (IsRefusal (toks_of cut.now)) }
     ensures only { IfOk result (Alone (ReadFor (toks_of cut.now) left at next)) }
-    ensures none { IfErr result (Refutes (ReadFor (toks_of cut.now) left at next)) }
+    ensures none { IfErr result (Refutes (toks_of cut.now) (ReadFor (toks_of cut.now) left at next)) }
 {
     if let Some(from) = assigned(cut, next) {
         return count_stat(alloc, cut, left, at, next, from);
@@ -39,15 +38,7 @@ pub fn for_stat(alloc: Global, cut: &Cut, left: u32, at: u32, next: u32) -> Resu
     let (values, opener) = exprs(alloc, cut, left, from)?;
     let inside = expect(cut, opener, Tok::Word(Word::Do))?;
     let (body, to) = ended_block(alloc, cut, left, opener, inside)?;
-    Ok(Stat {
-        from: at,
-        to,
-        what: StatKind::ForIn {
-            names,
-            values,
-            body,
-        },
-    })
+    made::for_in(alloc, at, to, names, values, body)
 }
 
 /// `'for' Name '=' exp ',' exp [',' exp] 'do' block 'end'` behind its `=`.
@@ -60,13 +51,11 @@ fn count_stat(
     name: u32,
     from: u32,
 ) -> Result<Stat, ParseErr>
-    requires left { left ≤ 200 }
     requires word { IsToken (toks_of cut.now) at (Tok.Word word.For) name }
     requires name { IsAssigned (toks_of cut.now) name from }
     ensures ok { IfOk result (λ s. Found (toks_of cut.now) (at + 1) (out-Stat s).to left (stat_levels s) (IsStat (toks_of cut.now) at (out-Stat s).to s)) }
-    ensures err { IfErr result (IsRefusal (toks_of cut.now)) }
     ensures only { IfOk result (Alone (ReadCount (toks_of cut.now) left at name from)) }
-    ensures none { IfErr result (Refutes (ReadCount (toks_of cut.now) left at name from)) }
+    ensures none { IfErr result (Refutes (toks_of cut.now) (ReadCount (toks_of cut.now) left at name from)) }
 {
     let first = expr(alloc, cut, left, from, 1)?;
     let second = expect(cut, first.to, Tok::Sign(Sign::Comma))?;
@@ -74,33 +63,26 @@ fn count_stat(
     let (step, opener) = for_step(alloc, cut, left, limit.to)?;
     let inside = expect(cut, opener, Tok::Word(Word::Do))?;
     let (body, to) = ended_block(alloc, cut, left, opener, inside)?;
-    Ok(Stat {
-        from: at,
-        to,
-        what: StatKind::For {
-            name,
-            first,
-            limit,
-            step,
-            body,
-        },
-    })
+    made::count_stat(alloc, at, to, name, first, limit, step, body)
 }
 
 /// `[',' exp]`, and the place after it.
 #[cycle(parse)]
-fn for_step(alloc: Global, cut: &Cut, left: u32, at: u32) -> Result<(Option<Expr>, u32), ParseErr>
-    requires left { left ≤ 200 }
+fn for_step(
+    alloc: Global,
+    cut: &Cut,
+    left: u32,
+    at: u32,
+) -> Result<(Option<Boxed<Expr>>, u32), ParseErr>
     requires within { at ≤ length (toks_of cut.now) }
     ensures ok { IfOk result (λ r. Found (toks_of cut.now) at r.1 left (if_there (option_map expr_levels r.0)) (IsForStep (toks_of cut.now) at r.1 r.0)) }
-    ensures err { IfErr result (IsRefusal (toks_of cut.now)) }
     ensures only { IfOk result (Alone (ReadForStep (toks_of cut.now) left at)) }
-    ensures none { IfErr result (Refutes (ReadForStep (toks_of cut.now) left at)) }
+    ensures none { IfErr result (Refutes (toks_of cut.now) (ReadForStep (toks_of cut.now) left at)) }
 {
     let Some(from) = eat(cut, at, Tok::Sign(Sign::Comma)) else {
         return Ok((None, at));
     };
     let step = expr(alloc, cut, left, from, 1)?;
     let to = step.to;
-    Ok((Some(step), to))
+    Ok((Some(Boxed::new(alloc, step)?), to))
 }

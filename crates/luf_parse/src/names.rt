@@ -2,11 +2,12 @@
 ghost use Rattle.std.specs.Prelude.{◌≡◌, ◌+◌, ◌<◌, ◌≤◌, length, IfOk, IfErr};
 ghost use Rattle.luf_lex.specs.Tokens.{toks_of};
 ghost use Rattle.luf_tree.specs.Grammar.{AreNames, AreParams, IsAttribute, AreDeclared, IsPath, IsMethod};
-ghost use Rattle.luf_parse.specs.Reads.{IsRefusal, Found};
-ghost use Rattle.luf_parse.specs.Exact.{Alone, Refutes};
-ghost use Rattle.luf_parse.specs.Parts.{ReadAttribute, ReadDeclared, ReadMethod, ReadNames, ReadParams, ReadPath};
+ghost use Rattle.luf_parse.specs.inner.Reads.{Found};
+ghost use Rattle.luf_parse.specs.inner.Exact.{Alone, Refutes};
+ghost use Rattle.luf_parse.specs.inner.Parts.{ReadAttribute, ReadDeclared, ReadMethod, ReadNames, ReadParams, ReadPath};
 
 use crate::ParseErr;
+use crate::growing::Growing;
 use crate::tokens::{eat, expect};
 use luf_lex::{Cut, Sign, Tok};
 use luf_tree::Declared;
@@ -16,17 +17,16 @@ use std::alloc::Global;
 /// `Name {',' Name}`, and the place after it.
 pub fn names(alloc: Global, cut: &Cut, mut at: u32) -> Result<(Items<u32>, u32), ParseErr>
     ensures ok { IfOk result (λ r. Found (toks_of cut.now) (at + 1) r.1 0 0 (AreNames (toks_of cut.now) at r.1 r.0)) }
-    ensures err { IfErr result (IsRefusal (toks_of cut.now)) }
     ensures only { IfOk result (Alone (ReadNames (toks_of cut.now) at)) }
-    ensures none { IfErr result (Refutes (ReadNames (toks_of cut.now) at)) }
+    ensures none { IfErr result (Refutes (toks_of cut.now) (ReadNames (toks_of cut.now) at)) }
 {
-    let mut found = Items::new(alloc);
+    let mut found = Growing::new(alloc);
     loop {
         let to = expect(cut, at, Tok::Name)?;
         found.push(at)?;
         match eat(cut, to, Tok::Sign(Sign::Comma)) {
             Some(next) => at = next,
-            None => return Ok((found, to)),
+            None => return Ok((found.exact(), to)),
         }
     }
 }
@@ -34,17 +34,16 @@ pub fn names(alloc: Global, cut: &Cut, mut at: u32) -> Result<(Items<u32>, u32),
 /// `Name {'.' Name}`, and the place after it.
 pub fn path(alloc: Global, cut: &Cut, mut at: u32) -> Result<(Items<u32>, u32), ParseErr>
     ensures ok { IfOk result (λ r. Found (toks_of cut.now) (at + 1) r.1 0 0 (IsPath (toks_of cut.now) at r.1 r.0)) }
-    ensures err { IfErr result (IsRefusal (toks_of cut.now)) }
     ensures only { IfOk result (Alone (ReadPath (toks_of cut.now) at)) }
-    ensures none { IfErr result (Refutes (ReadPath (toks_of cut.now) at)) }
+    ensures none { IfErr result (Refutes (toks_of cut.now) (ReadPath (toks_of cut.now) at)) }
 {
-    let mut found = Items::new(alloc);
+    let mut found = Growing::new(alloc);
     loop {
         let to = expect(cut, at, Tok::Name)?;
         found.push(at)?;
         match eat(cut, to, Tok::Sign(Sign::Dot)) {
             Some(next) => at = next,
-            None => return Ok((found, to)),
+            None => return Ok((found.exact(), to)),
         }
     }
 }
@@ -53,9 +52,8 @@ pub fn path(alloc: Global, cut: &Cut, mut at: u32) -> Result<(Items<u32>, u32), 
 pub fn method(cut: &Cut, at: u32) -> Result<(Option<u32>, u32), ParseErr>
     requires { at ≤ length (toks_of cut.now) }
     ensures ok { IfOk result (λ r. Found (toks_of cut.now) at r.1 0 0 (IsMethod (toks_of cut.now) at r.1 r.0)) }
-    ensures err { IfErr result (IsRefusal (toks_of cut.now)) }
     ensures only { IfOk result (Alone (ReadMethod (toks_of cut.now) at)) }
-    ensures none { IfErr result (Refutes (ReadMethod (toks_of cut.now) at)) }
+    ensures none { IfErr result (Refutes (toks_of cut.now) (ReadMethod (toks_of cut.now) at)) }
 {
     match eat(cut, at, Tok::Sign(Sign::Colon)) {
         Some(name) => {
@@ -70,25 +68,24 @@ pub fn method(cut: &Cut, at: u32) -> Result<(Option<u32>, u32), ParseErr>
 pub fn params(alloc: Global, cut: &Cut, mut at: u32) -> Result<(Items<u32>, bool, u32), ParseErr>
     requires { at ≤ length (toks_of cut.now) }
     ensures ok { IfOk result (λ r. Found (toks_of cut.now) at r.2 0 0 (AreParams (toks_of cut.now) at r.2 r.0 r.1)) }
-    ensures err { IfErr result (IsRefusal (toks_of cut.now)) }
     ensures only { IfOk result (Alone (ReadParams (toks_of cut.now) at)) }
-    ensures none { IfErr result (Refutes (ReadParams (toks_of cut.now) at)) }
+    ensures none { IfErr result (Refutes (toks_of cut.now) (ReadParams (toks_of cut.now) at)) }
 {
-    let mut found = Items::new(alloc);
     if let Some(to) = eat(cut, at, Tok::Sign(Sign::Dots)) {
-        return Ok((found, true, to));
+        return Ok((Items::new(alloc), true, to));
     }
     if !cut.is_at(at, Tok::Name) {
-        return Ok((found, false, at));
+        return Ok((Items::new(alloc), false, at));
     }
+    let mut found = Growing::new(alloc);
     loop {
         let to = expect(cut, at, Tok::Name)?;
         found.push(at)?;
         let Some(next) = eat(cut, to, Tok::Sign(Sign::Comma)) else {
-            return Ok((found, false, to));
+            return Ok((found.exact(), false, to));
         };
         if let Some(end) = eat(cut, next, Tok::Sign(Sign::Dots)) {
-            return Ok((found, true, end));
+            return Ok((found.exact(), true, end));
         }
         at = next;
     }
@@ -98,9 +95,8 @@ pub fn params(alloc: Global, cut: &Cut, mut at: u32) -> Result<(Items<u32>, bool
 fn attribute(cut: &Cut, at: u32) -> Result<(Option<u32>, u32), ParseErr>
     requires { at ≤ length (toks_of cut.now) }
     ensures ok { IfOk result (λ r. Found (toks_of cut.now) at r.1 0 0 (IsAttribute (toks_of cut.now) at r.1 r.0)) }
-    ensures err { IfErr result (IsRefusal (toks_of cut.now)) }
     ensures only { IfOk result (Alone (ReadAttribute (toks_of cut.now) at)) }
-    ensures none { IfErr result (Refutes (ReadAttribute (toks_of cut.now) at)) }
+    ensures none { IfErr result (Refutes (toks_of cut.now) (ReadAttribute (toks_of cut.now) at)) }
 {
     match eat(cut, at, Tok::Sign(Sign::Less)) {
         Some(name) => {
@@ -115,11 +111,10 @@ fn attribute(cut: &Cut, at: u32) -> Result<(Option<u32>, u32), ParseErr>
 /// `Name attrib {',' Name attrib}`, and the place after it.
 pub fn declared(alloc: Global, cut: &Cut, mut at: u32) -> Result<(Items<Declared>, u32), ParseErr>
     ensures ok { IfOk result (λ r. Found (toks_of cut.now) (at + 1) r.1 0 0 (AreDeclared (toks_of cut.now) at r.1 r.0)) }
-    ensures err { IfErr result (IsRefusal (toks_of cut.now)) }
     ensures only { IfOk result (Alone (ReadDeclared (toks_of cut.now) at)) }
-    ensures none { IfErr result (Refutes (ReadDeclared (toks_of cut.now) at)) }
+    ensures none { IfErr result (Refutes (toks_of cut.now) (ReadDeclared (toks_of cut.now) at)) }
 {
-    let mut found = Items::new(alloc);
+    let mut found = Growing::new(alloc);
     loop {
         let name = at;
         let after = expect(cut, name, Tok::Name)?;
@@ -127,7 +122,7 @@ pub fn declared(alloc: Global, cut: &Cut, mut at: u32) -> Result<(Items<Declared
         found.push(Declared { name, attribute })?;
         match eat(cut, to, Tok::Sign(Sign::Comma)) {
             Some(next) => at = next,
-            None => return Ok((found, to)),
+            None => return Ok((found.exact(), to)),
         }
     }
 }

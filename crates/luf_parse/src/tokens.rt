@@ -3,9 +3,10 @@ ghost use Rattle.std.specs.Prelude.{◌≡◌, ◌+◌, ◌<◌, ◌≤◌, ◌�
 ghost use Rattle.luf_lex.specs.Tokens.{toks_of};
 ghost use Rattle.luf_tree.specs.Grammar.{At, IsToken};
 ghost use Rattle.luf_tree.specs.Operator as operator;
-ghost use Rattle.luf_parse.specs.Exact.{Alone, Refutes, Enters};
-ghost use Rattle.luf_parse.specs.Reads as reads;
-ghost use Rattle.luf_parse.specs.Reads.{IsRefusal, level_at};
+ghost use Rattle.luf_parse.specs.Cause.{OfToken};
+ghost use Rattle.luf_parse.specs.inner.Exact.{Alone, Refutes, Enters};
+ghost use Rattle.luf_parse.specs.inner.Reads as reads;
+ghost use Rattle.luf_parse.specs.inner.Follow as follow;
 
 use crate::ParseErr;
 use luf_lex::{Cut, Sign, Tok, Word};
@@ -39,9 +40,8 @@ pub fn eat(cut: &Cut, at: u32, tok: Tok) -> Option<u32>
 pub fn expect(cut: &Cut, at: u32, tok: Tok) -> Result<u32, ParseErr>
     ensures token { IfOk result (λ next. IsToken (toks_of cut.now) at tok next) }
     ensures within { IfOk result (λ next. next ≤ length (toks_of cut.now)) }
-    ensures err { IfErr result (IsRefusal (toks_of cut.now)) }
     ensures only { IfOk result (Alone (IsToken (toks_of cut.now) at tok)) }
-    ensures none { IfErr result (Refutes (IsToken (toks_of cut.now) at tok)) }
+    ensures none { IfErr result (Refutes (toks_of cut.now) (IsToken (toks_of cut.now) at tok)) }
 {
     match eat(cut, at, tok) {
         Some(next) => Ok(next),
@@ -51,7 +51,7 @@ pub fn expect(cut: &Cut, at: u32, tok: Tok) -> Result<u32, ParseErr>
 
 /// The refusal of the token at a place, or of the end.
 pub fn refusal(cut: &Cut, at: u32) -> ParseErr
-    ensures { IsRefusal (toks_of cut.now) result }
+    ensures { OfToken (λ token. token ≤ length (toks_of cut.now)) result }
 {
     ParseErr::Syntax {
         token: at.min(cut.tokens()),
@@ -61,9 +61,8 @@ pub fn refusal(cut: &Cut, at: u32) -> ParseErr
 /// One level less, which the token at a place enters; a refusal where none is left.
 pub fn enter(cut: &Cut, left: u32, at: u32) -> Result<u32, ParseErr>
     ensures ok { IfOk result (λ inner. left ≡ inner + 1) }
-    ensures err { IfErr result (IsRefusal (toks_of cut.now)) }
     ensures only { IfOk result (Alone (Enters left)) }
-    ensures none { IfErr result (Refutes (Enters left)) }
+    ensures none { IfErr result (Refutes (toks_of cut.now) (Enters left)) }
 {
     if left == 0 {
         return Err(ParseErr::TooDeep {
@@ -73,20 +72,20 @@ pub fn enter(cut: &Cut, left: u32, at: u32) -> Result<u32, ParseErr>
     Ok(left - 1)
 }
 
-/// The level of the binary operator at a place other than `^`, from 1 to 10; 0 where none stands.
-pub fn level_at(cut: &Cut, at: u32) -> u8
-    ensures value { result ≡ reads.level_at (toks_of cut.now) at }
+/// The precedence of the binary operator at a place other than `^`, from 1 to 10; 0 where none stands.
+pub fn precedence_at(cut: &Cut, at: u32) -> u8
+    ensures value { result ≡ follow.precedence_at (toks_of cut.now) at }
     ensures small { result ≤ 10 }
 {
     match cut.token(at) {
-        Some(Tok::Word(word)) => word_level(word),
-        Some(Tok::Sign(sign)) => sign_level(sign),
+        Some(Tok::Word(word)) => word_precedence(word),
+        Some(Tok::Sign(sign)) => sign_precedence(sign),
         _ => 0,
     }
 }
 
-fn word_level(word: Word) -> u8
-    ensures value { result ≡ operator.word_level word }
+fn word_precedence(word: Word) -> u8
+    ensures value { result ≡ operator.word_precedence word }
     ensures small { result ≤ 10 }
 {
     match word {
@@ -96,8 +95,8 @@ fn word_level(word: Word) -> u8
     }
 }
 
-fn sign_level(sign: Sign) -> u8
-    ensures value { result ≡ operator.sign_level sign }
+fn sign_precedence(sign: Sign) -> u8
+    ensures value { result ≡ operator.sign_precedence sign }
     ensures small { result ≤ 10 }
 {
     match sign {

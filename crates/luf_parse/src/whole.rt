@@ -3,7 +3,7 @@ ghost use Rattle.std.specs.Prelude.{◌≡◌, ◌≤◌, ◌⊎◌, Ok, Err, If
 ghost use Rattle.luf_lex.specs.Tokens.{toks_of};
 ghost use Rattle.luf_tree.specs.declared.tree.Chunk.{Chunk as Tree};
 ghost use Rattle.luf_tree.specs.Grammar.{IsChunk};
-ghost use Rattle.luf_tree.specs.Level.{depth_of};
+ghost use Rattle.luf_tree.specs.Level.{level_limit, depth_of};
 ghost use Rattle.luf_parse.specs.Cause.{IsCause};
 
 use crate::ParseErr;
@@ -13,7 +13,7 @@ use luf_lex::Cut;
 use luf_tree::Chunk;
 use std::alloc::Global;
 
-/// How many levels a tree may nest below its main block.
+/// The limit of levels (`level_limit` of luf_tree).
 const LEVELS: u32 = 200;
 
 /// The tree of the tokens of a cut, which nests at most 200 levels deep (Lua 5.4 manual, 9). `one_tree` says that
@@ -25,9 +25,9 @@ const LEVELS: u32 = 200;
 /// Which of the two it is, and at which token, no clause says yet. `Memory`.
 pub fn parse(alloc: Global, cut: &Cut) -> Result<Chunk, ParseErr>
     ensures tree { IfOk result (λ chunk. IsChunk (toks_of cut.now) chunk) }
-    ensures depth { IfOk result (λ chunk. depth_of chunk ≤ 200) }
+    ensures depth { IfOk result (λ chunk. depth_of chunk ≤ level_limit) }
     ensures refused { IfErr result (IsCause (toks_of cut.now)) }
-    ensures complete { (tree : Tree) → IsChunk (toks_of cut.now) tree → depth_of tree ≤ 200 → (result ≡ Ok tree) ⊎ (result ≡ Err ParseErr.Memory) }
+    ensures complete { (tree : Tree) → IsChunk (toks_of cut.now) tree → depth_of tree ≤ level_limit → (result ≡ Ok tree) ⊎ (result ≡ Err ParseErr.Memory) }
 {
     whole(alloc, cut)
 }
@@ -35,7 +35,7 @@ pub fn parse(alloc: Global, cut: &Cut) -> Result<Chunk, ParseErr>
 /// The block of all tokens.
 fn whole(alloc: Global, cut: &Cut) -> Result<Chunk, ParseErr>
     ensures tree { IfOk result (λ chunk. IsChunk (toks_of cut.now) chunk) }
-    ensures depth { IfOk result (λ chunk. depth_of chunk ≤ 200) }
+    ensures depth { IfOk result (λ chunk. depth_of chunk ≤ level_limit) }
     ensures refused { IfErr result (IsCause (toks_of cut.now)) }
 {
     let block = block(alloc, cut, LEVELS, 0)?;

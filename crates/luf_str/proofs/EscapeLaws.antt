@@ -1,17 +1,20 @@
 -- `escape_at` finds each escape, and what it finds is one.
-use Rattle.std.proofs.Common.{◌≡◌, ℕ, suc, ◌+◌, ◌-◌, ◌*◌, ◌<◌, ◌≤◌, ◌^◌, ◌⊎◌, Bool, true, false, cond, eqb, leb, ltb, ◌&&◌, List, [], ◌∷◌, ◌++◌, length, get_or, take, drop, Option, Some, None, refl, sym, ap, subst, ◌∙◌, arith, inl, inr, append_assoc}
-use Rattle.std.specs.Prelude.{IsTrue, slice_index, option_map}
+use Rattle.std.proofs.Common.{◌≡◌, ℕ, suc, ◌+◌, ◌*◌, ◌<◌, ◌≤◌, ◌^◌, ◌⊎◌, Bool, true, false, cond, eqb, leb, ltb, ◌&&◌, List, [], ◌∷◌, ◌++◌, length, get_or, take, drop, Option, Some, None, refl, sym, ap, subst, ◌∙◌, arith, inl, inr, append_assoc}
+use Rattle.std.specs.Prelude.{codes, IsTrue, slice_index, option_map}
 use Rattle.std.specs.List.{AllByRecursion, prefix_len}
 use Rattle.std.proofs.lemmas.Bool.{eqb-true, lt-ltb, ltb-true, leb-true, cases_lt, false≢true}
 use Rattle.std.proofs.lemmas.Bool.Decides.{nat_tests}
 use Rattle.luf_str.specs.declared.escapes.Meaning.{Meaning}
 use Rattle.luf_str.specs.declared.escapes.Meaning.TheVariants.{Byte, Code, Nothing}
-use Rattle.luf_str.specs.Bytes.{is_line_byte, is_space, is_digit, is_hex_digit, hex_value, hex_number, decimal_number}
-use Rattle.luf_str.specs.Pieces.{NoneAtFront, IsLineEnd}
+use Rattle.std.specs.Str.Parse.{digits_value}
+use Rattle.std.specs.Char.{digit_value}
+use Rattle.luf_byte.specs.Class.{is_line_byte, is_whitespace, is_digit, is_hex_digit}
+use Rattle.luf_byte.specs.Front.{NoneAtFront}
+use Rattle.luf_byte.specs.LineEnd.{IsLineEndBefore, line_end_length}
 use Rattle.luf_str.specs.Escape.{IsEscape, NoEscape, letter_value}
 use Rattle.luf_str.specs.Escape as rule
 use Rattle.luf_str.specs.Meaning.{bytes_of}
-use Rattle.luf_str.specs.Reading.{line_end_length, hexadecimal_at, decimal_at, code_at, letter_at, escape_at}
+use Rattle.luf_str.specs.inner.Reading.{hexadecimal_at, decimal_at, code_at, letter_at, escape_at}
 use Rattle.luf_str.proofs.Leading.{prefix_len-whole, all_leading, none_after, line_end-reads, line_byte_cases, first_line_byte, line_end_length-is}
 use Rattle.std.proofs.lemmas.List.Sums.{prefix_len-le-length}
 use Rattle.std.proofs.lemmas.List.{take_at, get_or_at, length-append, get_or_past, take_more, length-take-le}
@@ -45,7 +48,7 @@ at_line_byte a text h =
       | inr e ↦ subst (λ b. escape_at (b ∷ text) ≡ Some (line_end_length (b ∷ text), Byte 10)) (sym e) refl
     ]
 
-line_reads : (line next : List ℕ) → IsLineEnd line next → escape_at (line ++ next) ≡ Some (length line, Byte 10)
+line_reads : (line next : List ℕ) → IsLineEndBefore line next → escape_at (line ++ next) ≡ Some (length line, Byte 10)
 line_reads [] next h = absurd h
 line_reads (a ∷ line) next h = at_line_byte a (line ++ next) (first_line_byte a line next h) ∙ ap (λ n. Some (n, Byte 10)) (line_end_length-is (a ∷ line) next h)
 
@@ -61,8 +64,8 @@ no_digit : (next : List ℕ) → NoneAtFront is_digit next → is_digit (get_or 
 no_digit [] h = refl
 no_digit (b ∷ next) h = h
 
-decimal_reads : (digits next : List ℕ) → 1 ≤ length digits → length digits ≤ 3 → AllByRecursion (λ b. IsTrue (is_digit b)) digits → (length digits < 3 → NoneAtFront is_digit next) → decimal_number digits ≤ 255
-    → escape_at (digits ++ next) ≡ Some (length digits, Byte (decimal_number digits))
+decimal_reads : (digits next : List ℕ) → 1 ≤ length digits → length digits ≤ 3 → AllByRecursion (λ b. IsTrue (is_digit b)) digits → (length digits < 3 → NoneAtFront is_digit next) → digits_value 10 digits ≤ 255
+    → escape_at (digits ++ next) ≡ Some (length digits, Byte (digits_value 10 digits))
 unfolding decimal_at
 decimal_reads [] next some most all none small = absurd (omega arith)
 decimal_reads (a ∷ []) next some most all none small =
@@ -70,30 +73,32 @@ decimal_reads (a ∷ []) next some most all none small =
 decimal_reads (a ∷ b ∷ []) next some most all none small =
     at_digit a (b ∷ next) all.0 ∙ rw (all.1.0, no_digit next (none (omega arith))) (ap (λ n. Some (2, Byte n)) (omega arith))
 decimal_reads (a ∷ b ∷ c ∷ []) next some most all none small =
-    let n-is : decimal_number (a ∷ b ∷ c ∷ []) ≡ 100 * (a - 48) + 10 * (b - 48) + (c - 48) = omega arith in
-    let fits : leb (100 * (a - 48) + 10 * (b - 48) + (c - 48)) 255 ≡ true = grind (arith, nat_tests) in
+    let n-is : digits_value 10 (a ∷ b ∷ c ∷ []) ≡ 100 * (digit_value a) + 10 * (digit_value b) + (digit_value c) = omega arith in
+    let fits : leb (100 * (digit_value a) + 10 * (digit_value b) + (digit_value c)) 255 ≡ true = grind (arith, nat_tests) in
     at_digit a (b ∷ c ∷ next) all.0 ∙ rw (all.1.0, all.1.1.0, fits) (ap (λ n. Some (3, Byte n)) (sym n-is))
 decimal_reads (a ∷ b ∷ c ∷ d ∷ digits) next some most all none small = absurd (omega arith)
 
-code_reads : (digits next : List ℕ) → 1 ≤ length digits → AllByRecursion (λ b. IsTrue (is_hex_digit b)) digits → hex_number digits < 2 ^ 31
-    → escape_at (117 ∷ 123 ∷ ((digits ++ 125 ∷ []) ++ next)) ≡ Some (3 + length digits, Code (hex_number digits))
+code_reads : (digits next : List ℕ) → 1 ≤ length digits → AllByRecursion (λ b. IsTrue (is_hex_digit b)) digits → digits_value 16 digits < 2 ^ 31
+    → escape_at (117 ∷ 123 ∷ ((digits ++ 125 ∷ []) ++ next)) ≡ Some (3 + length digits, Code (digits_value 16 digits))
 unfolding code_at
 code_reads digits next some all small =
     let count : prefix_len is_hex_digit (digits ++ 125 ∷ next) ≡ length digits = prefix_len-whole is_hex_digit digits (125 ∷ next) all refl in
     let front : take (length digits) (digits ++ 125 ∷ next) ≡ digits = take_at digits (125 ∷ next) _ refl in
     let close : get_or (digits ++ 125 ∷ next) (length digits) 0 ≡ 125 = get_or_at digits 125 next 0 _ refl in
     let more : ltb 0 (length digits) ≡ true = lt-ltb _ _ some in
-    let fits : ltb (hex_number digits) (2 ^ 31) ≡ true = lt-ltb _ _ small in
+    let fits : ltb (digits_value 16 digits) (2 ^ 31) ≡ true = lt-ltb _ _ small in
     rw (append_assoc, count, front, close, more, fits) refl
 
 pub complete : {escape next value : List ℕ} → IsEscape escape next value → Reads (escape ++ next) (length escape) value
 unfolding hexadecimal_at
 complete (rule.letter c byte next h) = (Byte byte, letter_reads c byte next h, refl)
 complete (rule.line_end line next h) = (Byte 10, line_reads line next h, refl)
-complete (rule.skip spaces next all none) = (Nothing, rw (prefix_len-whole is_space spaces next all none) (ap (λ n. Some (n, Nothing)) (omega arith)), refl)
-complete (rule.hexadecimal high low next h l) = (Byte (16 * hex_value high + hex_value low), rw (h, l) refl, refl)
-complete (rule.decimal digits next some most all none small) = (Byte (decimal_number digits), decimal_reads digits next some most all none small, refl)
-complete (rule.code digits next some all small) = (Code (hex_number digits), code_reads digits next some all small ∙ ap (λ n. Some (n, Code (hex_number digits))) (omega (arith, length-append {A = ℕ})), refl)
+complete (rule.skip spaces next all none) = (Nothing, rw (prefix_len-whole is_whitespace spaces next all none) (ap (λ n. Some (n, Nothing)) (omega arith)), refl)
+complete (rule.hexadecimal high low next h l) = (Byte (16 * digit_value high + digit_value low), rw (h, l) refl, refl)
+complete (rule.decimal digits next some most all none small) = (Byte (digits_value 10 digits), decimal_reads digits next some most all none small, refl)
+complete (rule.code digits next some all small) =
+    let closed : length (digits ++ codes "}") ≡ length digits + 1 = length-append digits (125 ∷ []) in
+    (Code (digits_value 16 digits), code_reads digits next some all small ∙ ap (λ n. Some (n, Code (digits_value 16 digits))) (omega arith), refl)
 
 -- which way a test went
 chosen : {A : Type 0} (b : Bool) (x y z : A) → cond b x y ≡ z → ((b ≡ true) × (x ≡ z)) ⊎ ((b ≡ false) × (y ≡ z))
@@ -131,18 +136,18 @@ hexadecimal_sound (high ∷ []) n m e = let p = passed _ _ _ e in let q = both _
 hexadecimal_sound (high ∷ low ∷ text) n m e =
     let p = passed _ _ _ e in
     let digits = both _ _ p.0 in
-    same_read (120 ∷ high ∷ low ∷ text) n m 3 (Byte (16 * hex_value high + hex_value low)) (omega arith, rule.hexadecimal high low text digits.0 digits.1) p.1
+    same_read (120 ∷ high ∷ low ∷ text) n m 3 (Byte (16 * digit_value high + digit_value low)) (omega arith, rule.hexadecimal high low text digits.0 digits.1) p.1
 
-decimal_escape : (digits next : List ℕ) (value : ℕ) → decimal_number digits ≡ value → 1 ≤ length digits → length digits ≤ 3 → AllByRecursion (λ b. IsTrue (is_digit b)) digits → (length digits < 3 → NoneAtFront is_digit next) → value ≤ 255
+decimal_escape : (digits next : List ℕ) (value : ℕ) → digits_value 10 digits ≡ value → 1 ≤ length digits → length digits ≤ 3 → AllByRecursion (λ b. IsTrue (is_digit b)) digits → (length digits < 3 → NoneAtFront is_digit next) → value ≤ 255
     → IsEscape digits next (value ∷ [])
 decimal_escape digits next value e some most all none small = subst (λ v. IsEscape digits next (v ∷ [])) e (rule.decimal digits next some most all none (omega arith))
 
-two_small : (a b : ℕ) → is_digit a ≡ true → is_digit b ≡ true → 10 * (a - 48) + (b - 48) ≤ 99
-two_small a b g h = let x : a - 48 ≤ 9 = grind (arith, nat_tests) in let y : b - 48 ≤ 9 = grind (arith, nat_tests) in omega arith
+two_small : (a b : ℕ) → is_digit a ≡ true → is_digit b ≡ true → 10 * (digit_value a) + (digit_value b) ≤ 99
+two_small a b g h = let x : digit_value a ≤ 9 = grind (arith, nat_tests) in let y : digit_value b ≤ 9 = grind (arith, nat_tests) in omega arith
 
 -- what two digits or three are read as
 abbrev rest_of_decimal : ℕ → ℕ → List ℕ → Option (ℕ × Meaning)
-rest_of_decimal a b text = let first = a - 48 in let second = b - 48 in let third = slice_index text 0 - 48 in
+rest_of_decimal a b text = let first = digit_value a in let second = digit_value b in let third = digit_value (slice_index text 0) in
     cond (is_digit (slice_index text 0))
     (cond (leb (100 * first + 10 * second + third) 255) (Some (3, Byte (100 * first + 10 * second + third))) None)
     (Some (2, Byte (10 * first + second)))
@@ -150,25 +155,25 @@ rest_of_decimal a b text = let first = a - 48 in let second = b - 48 in let thir
 decimal_sound_two : (a b : ℕ) (text : List ℕ) (n : ℕ) (m : Meaning) → is_digit a ≡ true → is_digit b ≡ true → rest_of_decimal a b text ≡ Some (n, m) → IsRead (a ∷ b ∷ text) n m
 decimal_sound_two a b [] n m g h e =
     let small = two_small a b g h in
-    same_read (a ∷ b ∷ []) n m 2 (Byte (10 * (a - 48) + (b - 48))) (omega arith, decimal_escape (a ∷ b ∷ []) [] _ (omega arith) (omega arith) (omega arith) (g, (h, tt)) (λ _. tt) (omega arith)) e
+    same_read (a ∷ b ∷ []) n m 2 (Byte (10 * (digit_value a) + (digit_value b))) (omega arith, decimal_escape (a ∷ b ∷ []) [] _ (omega arith) (omega arith) (omega arith) (g, (h, tt)) (λ _. tt) (omega arith)) e
 decimal_sound_two a b (c ∷ text) n m g h e =
     elim (chosen (is_digit c) _ _ _ e) [
       | inl three ↦ let p = passed _ _ _ three.1 in
-          same_read (a ∷ b ∷ c ∷ text) n m 3 (Byte (100 * (a - 48) + 10 * (b - 48) + (c - 48))) (omega arith, decimal_escape (a ∷ b ∷ c ∷ []) text _ (omega arith) (omega arith) (omega arith) (g, (h, (three.0, tt))) (λ lt. absurd (omega arith)) (leb-true _ _ p.0)) p.1
+          same_read (a ∷ b ∷ c ∷ text) n m 3 (Byte (100 * (digit_value a) + 10 * (digit_value b) + (digit_value c))) (omega arith, decimal_escape (a ∷ b ∷ c ∷ []) text _ (omega arith) (omega arith) (omega arith) (g, (h, (three.0, tt))) (λ lt. absurd (omega arith)) (leb-true _ _ p.0)) p.1
       | inr two ↦ let small = two_small a b g h in
-          same_read (a ∷ b ∷ c ∷ text) n m 2 (Byte (10 * (a - 48) + (b - 48))) (omega arith, decimal_escape (a ∷ b ∷ []) (c ∷ text) _ (omega arith) (omega arith) (omega arith) (g, (h, tt)) (λ _. two.0) (omega arith)) two.1
+          same_read (a ∷ b ∷ c ∷ text) n m 2 (Byte (10 * (digit_value a) + (digit_value b))) (omega arith, decimal_escape (a ∷ b ∷ []) (c ∷ text) _ (omega arith) (omega arith) (omega arith) (g, (h, tt)) (λ _. two.0) (omega arith)) two.1
     ]
 
 decimal_sound : (a : ℕ) (text : List ℕ) (n : ℕ) (m : Meaning) → is_digit a ≡ true → decimal_at (a ∷ text) ≡ Some (n, m) → IsRead (a ∷ text) n m
 unfolding decimal_at
 decimal_sound a [] n m h e =
-    let small : a - 48 ≤ 9 = grind (arith, nat_tests) in
-    same_read (a ∷ []) n m 1 (Byte (a - 48)) (omega arith, decimal_escape (a ∷ []) [] (a - 48) (omega arith) (omega arith) (omega arith) (h, tt) (λ _. tt) (omega arith)) e
+    let small : digit_value a ≤ 9 = grind (arith, nat_tests) in
+    same_read (a ∷ []) n m 1 (Byte (digit_value a)) (omega arith, decimal_escape (a ∷ []) [] (digit_value a) (omega arith) (omega arith) (omega arith) (h, tt) (λ _. tt) (omega arith)) e
 decimal_sound a (b ∷ text) n m h e =
     elim (chosen (is_digit b) _ _ _ e) [
       | inl two ↦ decimal_sound_two a b text n m h two.0 two.1
-      | inr one ↦ let small : a - 48 ≤ 9 = grind (arith, nat_tests) in
-          same_read (a ∷ b ∷ text) n m 1 (Byte (a - 48)) (omega arith, decimal_escape (a ∷ []) (b ∷ text) (a - 48) (omega arith) (omega arith) (omega arith) (h, tt) (λ _. one.0) (omega arith)) one.1
+      | inr one ↦ let small : digit_value a ≤ 9 = grind (arith, nat_tests) in
+          same_read (a ∷ b ∷ text) n m 1 (Byte (digit_value a)) (omega arith, decimal_escape (a ∷ []) (b ∷ text) (digit_value a) (omega arith) (omega arith) (omega arith) (h, tt) (λ _. one.0) (omega arith)) one.1
     ]
 
 code_sound : (text : List ℕ) (n : ℕ) (m : Meaning) → code_at (117 ∷ text) ≡ Some (n, m) → IsRead (117 ∷ text) n m
@@ -176,7 +181,7 @@ unfolding code_at
 code_sound [] n m e = absurd cc
 code_sound (b ∷ text) n m e =
     let count : ℕ = prefix_len is_hex_digit text in
-    let number : ℕ = hex_number (take count text) in
+    let number : ℕ = digits_value 16 (take count text) in
     let p = passed _ _ _ e in
     let brace : (eqb b 123 ≡ true) × ((ltb 0 count && (ltb number (2 ^ 31) && eqb (get_or text count 0) 125)) ≡ true) = both _ _ p.0 in
     let some : (ltb 0 count ≡ true) × ((ltb number (2 ^ 31) && eqb (get_or text count 0) 125) ≡ true) = both _ _ brace.1 in
@@ -198,10 +203,10 @@ letter_sound c text n m =
       | (Some b) ↦ λ yes e. same_read (c ∷ text) n m 1 (Byte b) (omega arith, rule.letter c b text yes) e
     ] refl
 
-skip_sound : (text : List ℕ) → IsRead (122 ∷ text) (1 + prefix_len is_space text) Nothing
+skip_sound : (text : List ℕ) → IsRead (122 ∷ text) (1 + prefix_len is_whitespace text) Nothing
 skip_sound text =
-    let e : 1 + prefix_len is_space text ≡ suc (prefix_len is_space text) = omega arith in
-    rw e (omega (arith, prefix_len-le-length is_space text), rule.skip (take (prefix_len is_space text) text) (drop (prefix_len is_space text) text) (all_leading is_space text) (none_after is_space text))
+    let e : 1 + prefix_len is_whitespace text ≡ suc (prefix_len is_whitespace text) = omega arith in
+    rw e (omega (arith, prefix_len-le-length is_whitespace text), rule.skip (take (prefix_len is_whitespace text) text) (drop (prefix_len is_whitespace text) text) (all_leading is_whitespace text) (none_after is_whitespace text))
 
 line_sound : (a : ℕ) (text : List ℕ) → is_line_byte a ≡ true → IsRead (a ∷ text) (line_end_length (a ∷ text)) (Byte 10)
 line_sound a text h = let r = line_end-reads a text h in (r.0, rule.line_end _ _ r.1)

@@ -3,8 +3,10 @@ use Rattle.std.proofs.Common.{◌≡◌, ℕ, ◌⊎◌, Bool, true, false, not,
 use Rattle.std.specs.Prelude.{◌==◌}
 use Rattle.std.proofs.lemmas.Bool.{eqb-true}
 use Rattle.std.proofs.lemmas.Bool.Decides.{nat_tests}
-use Rattle.luf_str.specs.Bytes.{is_line_byte, is_line_pair, is_space, is_digit, is_quote}
-use Rattle.luf_str.specs.Pieces.{NoneAtFront, IsLineEnd}
+use Rattle.luf_byte.specs.Class.{is_line_byte, is_whitespace, is_digit}
+use Rattle.luf_byte.specs.LineEnd.{is_line_pair, IsLineEndBefore}
+use Rattle.luf_str.specs.Bytes.{is_quote}
+use Rattle.luf_byte.specs.Front.{NoneAtFront}
 use Rattle.luf_str.specs.Escape.{IsEscape}
 use Rattle.luf_str.specs.Escape as escape_rule
 use Rattle.luf_str.specs.Spelling.{IsUnit}
@@ -52,8 +54,8 @@ by_quotes kind zero double single backslash =
 digits_apart : IsApart is_digit
 digits_apart = by_quotes is_digit refl refl refl refl
 
-pub spaces_apart : IsApart is_space
-spaces_apart = by_quotes is_space refl refl refl refl
+pub spaces_apart : IsApart is_whitespace
+spaces_apart = by_quotes is_whitespace refl refl refl refl
 
 no_pair : (a b : ℕ) → is_line_byte b ≡ false → is_line_pair a b ≡ false
 no_pair a b h = elim (is_line_byte a) as (λ t. (t && is_line_byte b && not (eqb a b)) ≡ false) [ true ↦ rw h refl | false ↦ refl ]
@@ -61,7 +63,7 @@ no_pair a b h = elim (is_line_byte a) as (λ t. (t && is_line_byte b && not (eqb
 pairs_apart : (a : ℕ) → IsApart (is_line_pair a)
 pairs_apart a = by_quotes (is_line_pair a) (no_pair a 0 refl) (no_pair a 34 refl) (no_pair a 39 refl) (no_pair a 92 refl)
 
-pub line_end_again : (line m n : List ℕ) → HasSameFront m n → IsLineEnd line m → IsLineEnd line n
+pub line_end_again : (line m n : List ℕ) → HasSameFront m n → IsLineEndBefore line m → IsLineEndBefore line n
 line_end_again [] m n same h = absurd h
 line_end_again (a ∷ []) m n same h = (h.0, none_again (is_line_pair a) m n (pairs_apart a) same h.1)
 line_end_again (a ∷ b ∷ []) m n same h = h
@@ -71,7 +73,7 @@ line_end_again (a ∷ b ∷ c ∷ line) m n same h = absurd h
 pub escape_again : {e m v : List ℕ} (n : List ℕ) → HasSameFront m n → IsEscape e m v → IsEscape e n v
 escape_again n same (escape_rule.letter c byte m h) = escape_rule.letter c byte n h
 escape_again n same (escape_rule.line_end line m h) = escape_rule.line_end line n (line_end_again line m n same h)
-escape_again n same (escape_rule.skip spaces m all none) = escape_rule.skip spaces n all (none_again is_space m n spaces_apart same none)
+escape_again n same (escape_rule.skip spaces m all none) = escape_rule.skip spaces n all (none_again is_whitespace m n spaces_apart same none)
 escape_again n same (escape_rule.hexadecimal high low m h l) = escape_rule.hexadecimal high low n h l
 escape_again n same (escape_rule.decimal digits m some most all none small) = escape_rule.decimal digits n some most all (λ few. none_again is_digit m n digits_apart same (none few)) small
 escape_again n same (escape_rule.code digits m some all small) = escape_rule.code digits n some all small
@@ -79,7 +81,7 @@ escape_again n same (escape_rule.code digits m some all small) = escape_rule.cod
 -- a unit stays one where the same byte follows
 pub unit_again : {q : ℕ} {u m : List ℕ} (n : List ℕ) → HasSameFront m n → IsUnit q u m → IsUnit q u n
 unit_again n same (unit_rule.plain q b m h) = unit_rule.plain q b n h
-unit_again n same (unit_rule.skip q spaces m all none) = unit_rule.skip q spaces n all (none_again is_space m n spaces_apart same none)
+unit_again n same (unit_rule.skip q spaces m all none) = unit_rule.skip q spaces n all (none_again is_whitespace m n spaces_apart same none)
 unit_again n same (unit_rule.line_end q line m h) = unit_rule.line_end q line n (line_end_again line m n same h)
 unit_again n same (unit_rule.other q b m no_z no_line) = unit_rule.other q b n no_z no_line
 

@@ -4,9 +4,10 @@ use Rattle.std.proofs.lemmas.Bool.Decides.{nat_tests}
 use Rattle.luf_str.specs.declared.escapes.Meaning.{Meaning}
 use Rattle.luf_str.specs.declared.escapes.Meaning.TheVariants.{Byte}
 use Rattle.luf_str.specs.declared.fronts.Front.TheVariants as front
-use Rattle.luf_str.specs.Bytes.{is_line_byte, is_plain}
+use Rattle.luf_byte.specs.Class.{is_line_byte}
+use Rattle.luf_str.specs.Bytes.{is_plain}
 use Rattle.luf_str.specs.Value as rule
-use Rattle.luf_str.specs.Reading.{escape_at}
+use Rattle.luf_str.specs.inner.Reading.{escape_at}
 use Rattle.luf_str.specs.Front.{IsEnd, IsFront}
 use Rattle.luf_str.proofs.EscapeLaws.{sound, none_reads}
 
@@ -43,7 +44,7 @@ lone_front q (a ∷ b ∷ text) is one = absurd (omega arith)
 pub bad_front : (q : ℕ) (text : List ℕ) → get_or text 0 0 ≡ 92 → length text ≢ 1 → escape_at (drop 1 text) ≡ None → IsFront q text front.BadEscape
 bad_front q [] is more none = absurd (omega arith)
 bad_front q (a ∷ []) is more none = absurd (more refl)
-bad_front q (a ∷ b ∷ text) is more none = (b ∷ text, ap (λ x. x ∷ b ∷ text) is, (λ e. absurd cc), none_reads (b ∷ text) none)
+bad_front q (a ∷ b ∷ text) is more none = (b ∷ text, ap (λ x. x ∷ b ∷ text) is, ((λ e. absurd cc), none_reads (b ∷ text) none))
 
 -- for `front_of`
 pub ruleset front_laws = (empty_front, quote_front, end_front, plain_front, escape_front, lone_front, bad_front)

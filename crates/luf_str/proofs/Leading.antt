@@ -4,9 +4,9 @@ use Rattle.std.specs.Prelude.{IsTrue}
 use Rattle.std.specs.List.{AllByRecursion, prefix_len}
 use Rattle.std.proofs.lemmas.Bool.{eqb-true}
 use Rattle.std.proofs.lemmas.Bool.Decides.{nat_tests}
-use Rattle.luf_str.specs.Bytes.{is_line_byte, is_line_pair}
-use Rattle.luf_str.specs.Pieces.{NoneAtFront, IsLineEnd}
-use Rattle.luf_str.specs.Reading.{line_end_length}
+use Rattle.luf_byte.specs.Class.{is_line_byte}
+use Rattle.luf_byte.specs.LineEnd.{is_line_pair, IsLineEndBefore, line_end_length}
+use Rattle.luf_byte.specs.Front.{NoneAtFront}
 
 -- all bytes of a kind that stand at the front
 pub prefix_len-whole : (p : ℕ → Bool) (xs next : List ℕ) → AllByRecursion (λ b. IsTrue (p b)) xs → NoneAtFront p next → prefix_len p (xs ++ next) ≡ length xs
@@ -45,12 +45,12 @@ line_byte_cases b h =
 line_pair_first : (a b : ℕ) → is_line_pair a b ≡ true → is_line_byte a ≡ true
 line_pair_first a b h = and_first (is_line_byte a) (is_line_byte b) (not (eqb a b)) h
 
-pub first_line_byte : (a : ℕ) (line next : List ℕ) → IsLineEnd (a ∷ line) next → is_line_byte a ≡ true
+pub first_line_byte : (a : ℕ) (line next : List ℕ) → IsLineEndBefore (a ∷ line) next → is_line_byte a ≡ true
 first_line_byte a [] next h = h.0
 first_line_byte a (b ∷ []) next h = line_pair_first a b h
 first_line_byte a (b ∷ c ∷ line) next h = absurd h
 
-pub line_end_length-is : (line next : List ℕ) → IsLineEnd line next → line_end_length (line ++ next) ≡ length line
+pub line_end_length-is : (line next : List ℕ) → IsLineEndBefore line next → line_end_length (line ++ next) ≡ length line
 line_end_length-is [] next h = absurd h
 line_end_length-is (a ∷ []) [] h = rw (h.0) (grind (arith, nat_tests))
 line_end_length-is (a ∷ []) (b ∷ next) h = rw (h.1, h.0) refl
@@ -59,12 +59,12 @@ line_end_length-is (a ∷ b ∷ c ∷ line) next h = absurd h
 
 -- the line end that is read is one
 pub line_end-reads : (a : ℕ) (text : List ℕ) → is_line_byte a ≡ true
-    → (line_end_length (a ∷ text) ≤ length (a ∷ text)) × IsLineEnd (take (line_end_length (a ∷ text)) (a ∷ text)) (drop (line_end_length (a ∷ text)) (a ∷ text))
+    → (line_end_length (a ∷ text) ≤ length (a ∷ text)) × IsLineEndBefore (take (line_end_length (a ∷ text)) (a ∷ text)) (drop (line_end_length (a ∷ text)) (a ∷ text))
 line_end-reads a [] h =
     let one : line_end_length (a ∷ []) ≡ 1 = line_end_length-is (a ∷ []) [] (h, tt) in
     rw one (omega arith, (h, tt))
 line_end-reads a (b ∷ text) h =
-    elim (is_line_pair a b) as (λ t. is_line_pair a b ≡ t → (line_end_length (a ∷ b ∷ text) ≤ length (a ∷ b ∷ text)) × IsLineEnd (take (line_end_length (a ∷ b ∷ text)) (a ∷ b ∷ text)) (drop (line_end_length (a ∷ b ∷ text)) (a ∷ b ∷ text))) [
+    elim (is_line_pair a b) as (λ t. is_line_pair a b ≡ t → (line_end_length (a ∷ b ∷ text) ≤ length (a ∷ b ∷ text)) × IsLineEndBefore (take (line_end_length (a ∷ b ∷ text)) (a ∷ b ∷ text)) (drop (line_end_length (a ∷ b ∷ text)) (a ∷ b ∷ text))) [
       | true ↦ λ yes. let two : line_end_length (a ∷ b ∷ text) ≡ 2 = rw (yes, h) refl in rw two (omega arith, yes)
       | false ↦ λ no. let one : line_end_length (a ∷ b ∷ text) ≡ 1 = rw (no, h) refl in rw one (omega arith, (h, no))
     ] refl

@@ -10,5 +10,6 @@ pub mod LongLaws
 pub mod Unique
 pub mod Requoting
 pub mod Apart
+pub mod EndLaws
 pub mod PartLaws
-pub mod Spelled
+pub mod BracketLaws

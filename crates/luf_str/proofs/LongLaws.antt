@@ -1,15 +1,16 @@
 -- Reading a long string.
-use Rattle.std.proofs.Common.{◌≡◌, ℕ, zero, suc, ◌+◌, ◌-◌, ◌<◌, ◌≤◌, Bool, true, false, cond, List, [], ◌∷◌, ◌++◌, length, get_or, take, drop, replicate, refl, sym, ap, subst, ◌∙◌, arith, append_assoc}
+use Rattle.std.proofs.Common.{◌≡◌, ℕ, zero, suc, ◌+◌, ◌-◌, ◌<◌, ◌≤◌, Bool, true, false, cond, List, [], ◌∷◌, ◌++◌, length, get_or, take, drop, replicate, refl, sym, ap, subst, ◌∙◌, arith, inl, inr, append_assoc, add-zero}
 use Rattle.std.specs.Prelude.{IsTrue, ◌==◌}
 use Rattle.std.specs.List.{AllByRecursion, prefix_len}
 use Rattle.std.proofs.lemmas.Grind.{flat_map-append}
-use Rattle.std.proofs.lemmas.List.{append-nil, take-append-drop, length-append, length-replicate, drop-drop, take_at, drop_at, nil_from_length}
-use Rattle.luf_str.specs.Bytes.{is_line_byte, is_line_pair}
-use Rattle.luf_str.specs.Pieces.{IsLineEnd}
+use Rattle.std.proofs.lemmas.List.{append-nil, take-append-drop, length-append, length-replicate, drop-drop, take_at, drop_at, nil_from_length, get_or-drop, get_or-take, length-drop, length-take-le}
+use Rattle.std.proofs.lemmas.Bool.{cases_lt, false≢true, false_from_ne_true}
+use Rattle.memchr.specs.Find.{Nowhere, NoneBefore, Passes}
+use Rattle.luf_byte.specs.Class.{is_line_byte}
+use Rattle.luf_byte.specs.LineEnd.{is_line_pair, IsLineEndBefore, line_end_length}
 use Rattle.luf_str.specs.Spelling.{opening, closing, IsLongOf, IsLongSpelling}
 use Rattle.luf_str.specs.Value.{IsLongPart, Part, spelling_of, meaning_of, AreLongParts, IsDropped, IsLongText}
 use Rattle.luf_str.specs.Value as rule
-use Rattle.luf_str.specs.Reading.{line_end_length}
 use Rattle.luf_str.proofs.Leading.{prefix_len-whole, line_end-reads}
 use Rattle.luf_str.proofs.InPlace.{in_place_push}
 use Rattle.luf_str.proofs.UnitLaws.{when_true}
@@ -64,7 +65,7 @@ pub record IsLongReadTo (body next done : List ℕ) : Type 0 where
   pub are : AreLongParts parts next
   pub value : done ≡ meaning_of parts
 
-dropped_line : (line next : List ℕ) → IsLineEnd line next → IsDropped line next
+dropped_line : (line next : List ℕ) → IsLineEndBefore line next → IsDropped line next
 dropped_line [] next h = absurd h
 dropped_line (a ∷ line) next h = h
 
@@ -93,24 +94,16 @@ one_more body done part next value r is =
       value = ap (λ t. t ++ value) r.value ∙ sym meant;
     }
 
-pub long_goes_on : (body done : List ℕ) (at n : ℕ) (value : List ℕ) → IsLongReadTo body (drop at body) done → IsLongPart (take n (drop at body)) (drop n (drop at body)) value
-    → IsLongReadTo body (drop (at + n) body) (done ++ value)
-long_goes_on body done at n value r is =
-    let rest : List ℕ = drop at body in
-    subst (λ t. IsLongReadTo body t (done ++ value)) (drop-drop n at body) (one_more body done (take n rest) (drop n rest) value (subst (λ t. IsLongReadTo body t done) (sym (take-append-drop n rest)) r) is)
+-- a run of bytes of no line end is read
+over_run : (body done run next : List ℕ) → IsLongReadTo body (run ++ next) done → ((j : ℕ) → j < length run → is_line_byte (get_or run j 0) ≡ false) → IsLongReadTo body next (done ++ run)
+over_run body done [] next r none = subst (IsLongReadTo body next) (sym (append-nil done)) r
+over_run body done (b ∷ run) next r none =
+    let first = one_more body done (b ∷ []) (run ++ next) (b ∷ []) r (rule.in_line b (run ++ next) (none 0 (omega arith))) in
+    subst (IsLongReadTo body next) (append_assoc done (b ∷ []) run) (over_run body (done ++ b ∷ []) run next first (λ j below. none (suc j) (omega arith)))
 
 two_or_one : (b : Bool) → cond {A = ℕ} b 2 1 ≡ 0 → ⊥
 two_or_one true e = omega arith
 two_or_one false e = omega arith
-
--- a byte that is no line end
-pub long_byte : (text : List ℕ) → 0 < length text → line_end_length text ≡ 0 → IsLongPart (take 1 text) (drop 1 text) (get_or text 0 0 ∷ [])
-long_byte [] some none = absurd (omega arith)
-long_byte (a ∷ text) some none =
-    elim (is_line_byte a) as (λ t. is_line_byte a ≡ t → IsLongPart (a ∷ []) text (a ∷ [])) [
-      | true ↦ λ yes. let e : line_end_length (a ∷ text) ≡ cond (is_line_pair a (get_or text 0 0)) 2 1 = when_true _ _ _ yes in absurd (two_or_one _ (sym e ∙ none))
-      | false ↦ λ no. rule.byte a text no
-    ] refl
 
 pub long_line : (text : List ℕ) → 0 < line_end_length text → IsLongPart (take (line_end_length text) text) (drop (line_end_length text) text) (10 ∷ [])
 long_line [] some = absurd (omega arith)
@@ -125,3 +118,37 @@ long_ends body next done r e =
     let none : next ≡ [] = nil_from_length next e in
     let spelled : spelling_of r.parts ++ next ≡ spelling_of r.parts = ap (λ t. spelling_of r.parts ++ t) none ∙ append-nil (spelling_of r.parts) in
     (r.dropped, r.parts, r.text ∙ ap (λ t. r.dropped ++ t) spelled, subst (IsDropped r.dropped) spelled r.first, subst (AreLongParts r.parts) none r.are, r.value)
+
+not_passed : (rest : List ℕ) (j : ℕ) → ¬ (Passes is_line_byte rest j) → is_line_byte (get_or rest j 0) ≡ false
+not_passed rest j none = false_from_ne_true (is_line_byte (get_or rest j 0)) none
+
+line_is_some : (text : List ℕ) → is_line_byte (get_or text 0 0) ≡ true → (0 < line_end_length text) × (line_end_length text ≤ length text)
+line_is_some [] line = absurd (false≢true line)
+line_is_some (a ∷ text) line =
+    let e : line_end_length (a ∷ text) ≡ cond (is_line_pair a (get_or text 0 0)) 2 1 = when_true _ _ _ line in
+    (elim (cases_lt 0 (line_end_length (a ∷ text))) [ inl some ↦ some | inr none ↦ absurd (two_or_one _ (sym e ∙ omega arith)) ], (line_end-reads a text line).0)
+
+-- a line and the line end behind it are read
+pub over_line : (body done rest : List ℕ) (at line m : ℕ) → IsLongReadTo body (drop at body) done → rest ≡ drop at body → NoneBefore (Passes is_line_byte rest) 0 (length rest) line → Passes is_line_byte rest line
+    → m ≡ line_end_length (drop line rest) → (at + (line + m) ≤ length body) × (0 < m) × IsLongReadTo body (drop (at + (line + m)) body) ((done ++ take line rest) ++ 10 ∷ [])
+over_line body done rest at line m r is none here count =
+    let next : List ℕ = drop line rest in
+    let first : get_or next 0 0 ≡ get_or rest line 0 = get_or-drop line rest 0 0 ∙ ap (λ i. get_or rest i 0) (add-zero line) in
+    let some = line_is_some next (ap is_line_byte first ∙ here) in
+    let cut : drop at body ≡ take line rest ++ next = sym is ∙ sym (take-append-drop line rest) in
+    let size : length (take line rest) ≡ line = length-take-le line rest (omega (arith, none.high)) in
+    let run = over_run body done (take line rest) next (subst (λ t. IsLongReadTo body t done) cut r)
+    (λ j below. ap is_line_byte (get_or-take line rest j 0 (omega (arith, size))) ∙ not_passed rest j (none.before j (omega arith) (omega (arith, size)))) in
+    let k : ℕ = line_end_length next in
+    let over = one_more body (done ++ take line rest) (take k next) (drop k next) (10 ∷ []) (subst (λ t. IsLongReadTo body t (done ++ take line rest)) (sym (take-append-drop k next)) run) (long_line next some.0) in
+    let behind : drop k next ≡ drop (at + (line + k)) body = drop-drop k line rest ∙ ap (drop (line + k)) is ∙ drop-drop (line + k) at body in
+    let moved = subst (λ t. IsLongReadTo body t ((done ++ take line rest) ++ 10 ∷ [])) behind over in
+    let room : line + k ≤ length rest = omega (arith, some.1, none.high, length-drop line rest) in
+    subst (λ x. (at + (line + x) ≤ length body) × (0 < x) × IsLongReadTo body (drop (at + (line + x)) body) ((done ++ take line rest) ++ 10 ∷ [])) (sym count)
+    (omega (arith, ap length is, length-drop at body, none.high), some.0, moved)
+
+-- a last line, behind which no line end stands, ends the body
+pub last_line : (body done rest : List ℕ) (at : ℕ) → IsLongReadTo body (drop at body) done → rest ≡ drop at body → Nowhere (Passes is_line_byte rest) 0 (length rest) → IsLongText body (done ++ rest)
+last_line body done rest at r is nowhere =
+    let whole : IsLongReadTo body (rest ++ []) done = subst (λ t. IsLongReadTo body t done) (sym is ∙ sym (append-nil rest)) r in
+    long_ends body [] (done ++ rest) (over_run body done rest [] whole (λ j below. not_passed rest j (nowhere j (omega arith) below))) refl

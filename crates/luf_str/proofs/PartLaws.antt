@@ -1,10 +1,12 @@
 -- Reading a short string part by part.
-use Rattle.std.proofs.Common.{◌≡◌, ◌⊎◌, ℕ, ◌+◌, ◌<◌, ◌≤◌, true, List, [], ◌∷◌, ◌++◌, length, get_or, take, drop, refl, sym, ap, subst, ◌∙◌, arith, inl, inr, append_assoc}
+use Rattle.std.proofs.Common.{◌≡◌, ◌⊎◌, ℕ, suc, ◌+◌, ◌<◌, ◌≤◌, true, List, [], ◌∷◌, ◌++◌, length, get_or, take, drop, refl, sym, ap, subst, ◌∙◌, arith, inl, inr, append_assoc, add-zero}
+use Rattle.std.specs.List.{prefix_len}
+use Rattle.std.proofs.lemmas.List.Sums.{prefix_len-le-length}
 use Rattle.std.proofs.lemmas.Grind.{flat_map-append}
 use Rattle.std.proofs.lemmas.List.{append-nil, take-append-drop, length-append, length-take-le, drop-drop, length-drop, take_at}
 use Rattle.luf_str.specs.Bytes.{is_quote}
-use Rattle.luf_str.specs.Escape.{NoEscape}
-use Rattle.luf_str.specs.Spelling.{joined, IsShortSpelling}
+use Rattle.luf_str.specs.Escape.{IsBadEscape}
+use Rattle.luf_str.specs.Spelling.{unit_bytes, IsShortSpelling}
 use Rattle.luf_str.specs.Value.{IsPart, Part, spelling_of, meaning_of, AreParts, IsShortValue, FirstBad}
 use Rattle.luf_str.specs.declared.escapes.Meaning.{Meaning}
 use Rattle.luf_str.specs.declared.fronts.Front.{Front}
@@ -13,7 +15,10 @@ use Rattle.luf_str.specs.Meaning.{bytes_of}
 use Rattle.luf_str.specs.Front.{IsFront, IsEnd}
 use Rattle.luf_str.proofs.InPlace.{in_place_push, behind_first}
 use Rattle.luf_str.specs.ShortEnd.{IsOpen}
-use Rattle.luf_str.proofs.UnitLaws.{AreUnits, IsRest, parts_units, rest_behind, only_quote, rest_is_no_end}
+use Rattle.luf_str.specs.inner.Reading.{is_ordinary}
+use Rattle.luf_str.specs.Value as rule
+use Rattle.luf_str.proofs.Leading.{all_leading}
+use Rattle.luf_str.proofs.UnitLaws.{AllOrdinary, ordinary_is_plain, AreUnits, IsRest, parts_units, rest_behind, only_quote, rest_is_no_end}
 use Rattle.luf_str.proofs.Follows.{parts_again}
 use Rattle.luf_str.proofs.Apart.{short_apart, short_is_spelled}
 
@@ -29,10 +34,6 @@ pub record IsReadTo (q : ℕ) (spelling : List ℕ) (at : ℕ) (next done : List
 pub starts : (text : List ℕ) → 0 < length text → is_quote (get_or text 0 0) ≡ true → IsReadTo (get_or text 0 0) text 1 (drop 1 text) []
 starts [] some quote = absurd (omega arith)
 starts (q ∷ text) some quote = record { parts = []; quote = quote; are = tt; text = refl; place = refl; value = refl }
-
-pub starts_short : (spelling : List ℕ) → IsShortSpelling spelling → IsReadTo (get_or spelling 0 0) spelling 1 (drop 1 spelling) []
-starts_short spelling (q, quote, (units, cut)) =
-    subst (λ (t : List ℕ). IsReadTo (get_or t 0 0) t 1 (drop 1 t) []) (sym cut.1) (record { parts = []; quote = quote; are = tt; text = refl; place = refl; value = refl })
 
 one_more : (q : ℕ) (spelling : List ℕ) (at : ℕ) (done part next value : List ℕ) → IsReadTo q spelling at (part ++ next) done → IsPart q part next value → IsReadTo q spelling (at + length part) next (done ++ value)
 one_more q spelling at done part next value r is =
@@ -56,19 +57,47 @@ read_part q spelling at done n value r le is =
     subst (λ t. IsReadTo q spelling (at + n) t (done ++ value)) (drop-drop n at spelling) (subst (λ k. IsReadTo q spelling (at + k) (drop n rest) (done ++ value)) (length-take-le n rest le) more)
 
 -- a front that is a part is read
-pub goes_on : (q : ℕ) (spelling : List ℕ) (at : ℕ) (done rest : List ℕ) (n : ℕ) (m : Meaning) → IsReadTo q spelling at (drop at spelling) done → at ≤ length spelling
+pub part_read : (q : ℕ) (spelling : List ℕ) (at : ℕ) (done rest : List ℕ) (n : ℕ) (m : Meaning) → IsReadTo q spelling at (drop at spelling) done → at ≤ length spelling
     → rest ≡ drop at spelling → IsFront q rest (front.Part n m) → (at + n ≤ length spelling) × IsReadTo q spelling (at + n) (drop (at + n) spelling) (done ++ bytes_of m)
-goes_on q spelling at done rest n m r within is found =
+part_read q spelling at done rest n m r within is found =
     let part = subst (λ t. IsFront q t (front.Part n m)) is found in
     (omega (arith, part.1, length-drop at spelling), read_part q spelling at done n (bytes_of m) r part.1 part.2)
+
+-- each byte of an ordinary run stands for itself
+over_run : (q : ℕ) (spelling : List ℕ) (at : ℕ) (done run next : List ℕ) → IsReadTo q spelling at (run ++ next) done → AllOrdinary run → IsReadTo q spelling (at + length run) next (done ++ run)
+over_run q spelling at done [] next r all =
+    subst (λ k. IsReadTo q spelling k next (done ++ [])) (sym (add-zero at)) (subst (IsReadTo q spelling at next) (sym (append-nil done)) r)
+over_run q spelling at done (b ∷ run) next r all =
+    let first = one_more q spelling at done (b ∷ []) (run ++ next) (b ∷ []) r (rule.plain q b (run ++ next) (ordinary_is_plain q b r.quote all.0)) in
+    let rest = over_run q spelling (at + 1) (done ++ b ∷ []) run next first all.1 in
+    let place : at + 1 + length run ≡ at + suc (length run) = omega arith in
+    subst (λ k. IsReadTo q spelling k next (done ++ b ∷ run)) place (subst (IsReadTo q spelling (at + 1 + length run) next) (append_assoc done (b ∷ []) run) rest)
+
+-- the ordinary bytes at the front are read
+pub run_read : (q : ℕ) (text : List ℕ) (at : ℕ) (done rest : List ℕ) (n : ℕ) → IsReadTo q text at (drop at text) done → at ≤ length text → rest ≡ drop at text → n ≡ prefix_len is_ordinary rest
+    → (at + n ≤ length text) × IsReadTo q text (at + n) (drop (at + n) text) (done ++ take n rest)
+run_read q text at done rest n r within is count =
+    let k : ℕ = prefix_len is_ordinary rest in
+    let le : k ≤ length rest = prefix_len-le-length is_ordinary rest in
+    let cut : drop at text ≡ take k rest ++ drop k rest = sym is ∙ sym (take-append-drop k rest) in
+    let more = over_run q text at done (take k rest) (drop k rest) (subst (λ t. IsReadTo q text at t done) cut r) (all_leading is_ordinary rest) in
+    let behind : drop k rest ≡ drop (at + k) text = ap (drop k) is ∙ drop-drop k at text in
+    let moved = subst (λ t. IsReadTo q text (at + k) t (done ++ take k rest)) behind (subst (λ j. IsReadTo q text (at + j) (drop k rest) (done ++ take k rest)) (length-take-le k rest le) more) in
+    (omega (arith, ap length is, length-drop at text), subst (λ j. IsReadTo q text (at + j) (drop (at + j) text) (done ++ take j rest)) (sym count) moved)
+
+-- where neither a part, the quote nor a bad escape stands, the string is open
+pub stays_open : (q : ℕ) (text : List ℕ) (at : ℕ) (rest done : List ℕ) (f : Front) → IsReadTo q text at (drop at text) done → rest ≡ drop at text → IsFront q rest f
+    → (f ≡ front.LoneBackslash) ⊎ (f ≡ front.End) → IsOpen text
+stays_open q text at rest done f r is found (inl e) = (q, r.parts, drop at text, r.quote, r.are, r.text, inr (sym is ∙ subst (IsFront q rest) e found))
+stays_open q text at rest done f r is found (inr e) = (q, r.parts, drop at text, r.quote, r.are, r.text, inl (subst IsEnd is (subst (IsFront q rest) e found)))
 
 -- what a short string is read up to is the rest of it
 is_rest : (q : ℕ) (spelling : List ℕ) (at : ℕ) (next done : List ℕ) → IsShortSpelling spelling → IsReadTo q spelling at next done → IsRest q next
 is_rest q spelling at next done (p, quote, (units, cut)) r =
     let same : p ≡ q = ap (λ t. get_or t 0 0) (sym cut.1 ∙ r.text) in
-    let moved = subst (λ x. AreUnits x units (x ∷ []) × (spelling ≡ x ∷ (joined units ++ x ∷ []))) same cut in
+    let moved = subst (λ x. AreUnits x units (x ∷ []) × (spelling ≡ x ∷ (unit_bytes units ++ x ∷ []))) same cut in
     let u = parts_units q r.parts next r.quote r.are in
-    let inner : joined u.0 ++ next ≡ joined units ++ q ∷ [] = ap (λ t. t ++ next) (sym u.2) ∙ behind_first q _ _ (sym r.text ∙ moved.1) in
+    let inner : unit_bytes u.0 ++ next ≡ unit_bytes units ++ q ∷ [] = ap (λ t. t ++ next) (sym u.2) ∙ behind_first q _ _ (sym r.text ∙ moved.1) in
     rest_behind q u.0 next r.quote u.1 (units, moved.0, inner)
 
 -- a short string that is read up to a quote has a value
@@ -80,11 +109,6 @@ ends q spelling at next done behind short r e =
 -- it does not end before
 pub never_open : (q : ℕ) (spelling : List ℕ) (at : ℕ) (next done : List ℕ) → IsShortSpelling spelling → IsReadTo q spelling at next done → IsEnd next ⊎ (next ≡ 92 ∷ []) → ⊥
 never_open q spelling at next done short r unclosed = rest_is_no_end q next r.quote (is_rest q spelling at next done short r) unclosed
-
-pub never_open_front : (q : ℕ) (spelling : List ℕ) (at : ℕ) (rest done : List ℕ) (f : Front) → IsShortSpelling spelling → IsReadTo q spelling at (drop at spelling) done
-    → rest ≡ drop at spelling → IsFront q rest f → (f ≡ front.LoneBackslash) ⊎ (f ≡ front.End) → ⊥
-never_open_front q spelling at rest done f short r is found (inl e) = never_open q spelling at (drop at spelling) done short r (inr (sym is ∙ subst (IsFront q rest) e found))
-never_open_front q spelling at rest done f short r is found (inr e) = never_open q spelling at (drop at spelling) done short r (inl (subst IsEnd is (subst (IsFront q rest) e found)))
 
 pub short_is_not_open : (spelling : List ℕ) → IsShortSpelling spelling → IsOpen spelling → ⊥
 short_is_not_open spelling short (q, parts, next, quote, all, e, unclosed) =
@@ -107,6 +131,6 @@ closed_is_whole spelling n value short valued =
     subst (λ t. IsShortValue t value) whole valued
 
 -- a string that is read up to a bad escape has its first bad place there
-pub is_bad : (q : ℕ) (spelling : List ℕ) (at : ℕ) (next done behind : List ℕ) → IsReadTo q spelling at next done → next ≡ 92 ∷ behind → NoEscape behind → FirstBad spelling at
-is_bad q spelling at next done behind r e none =
-    (q, r.parts, behind, r.quote, subst (AreParts q r.parts) e r.are, none, r.text ∙ ap (λ t. q ∷ (spelling_of r.parts ++ t)) e, r.place)
+pub is_bad : (q : ℕ) (spelling : List ℕ) (at : ℕ) (next done behind : List ℕ) → IsReadTo q spelling at next done → next ≡ 92 ∷ behind → IsBadEscape behind → FirstBad spelling at
+is_bad q spelling at next done behind r e bad =
+    (q, r.parts, behind, r.quote, subst (AreParts q r.parts) e r.are, bad, r.text ∙ ap (λ t. q ∷ (spelling_of r.parts ++ t)) e, r.place)

@@ -1,19 +1,22 @@
 -- The units of a short string: which one stands at the front, and what parts have to do with them.
-use Rattle.std.proofs.Common.{◌≡◌, ◌≢◌, ℕ, suc, ◌+◌, ◌<◌, ◌≤◌, ◌⊎◌, Bool, true, false, cond, eqb, ◌&&◌, List, [], ◌∷◌, ◌++◌, length, get_or, map, refl, sym, ap, subst, ◌∙◌, arith, inl, inr, append_assoc}
+use Rattle.std.proofs.Common.{◌≡◌, ◌≢◌, ℕ, suc, ◌+◌, ◌<◌, ◌≤◌, ◌⊎◌, Bool, true, false, cond, eqb, List, [], ◌∷◌, ◌++◌, length, get_or, map, refl, sym, ap, subst, ◌∙◌, arith, inl, inr, append_assoc}
 use Rattle.std.specs.Prelude.{IsTrue, IsFalse}
 use Rattle.std.specs.List.{AllByRecursion, prefix_len}
 use Rattle.std.proofs.lemmas.Bool.{eqb-true, false≢true}
 use Rattle.std.proofs.lemmas.List.{append-nil, length-append}
 use Rattle.std.proofs.lemmas.Bool.Decides.{nat_tests}
-use Rattle.luf_str.specs.Bytes.{is_line_byte, is_space, is_quote, is_plain, is_digit, is_hex_digit}
-use Rattle.luf_str.specs.Pieces.{AllInPlace, NoneAtFront, IsLineEnd}
+use Rattle.luf_byte.specs.Class.{is_line_byte, is_whitespace, is_digit, is_hex_digit}
+use Rattle.luf_str.specs.Bytes.{is_quote, is_plain}
+use Rattle.luf_byte.specs.Front.{NoneAtFront}
+use Rattle.luf_byte.specs.LineEnd.{IsLineEndBefore, line_end_length}
+use Rattle.luf_str.specs.Pieces.{AllInPlace}
 use Rattle.luf_str.specs.Escape.{IsEscape, letter_value}
 use Rattle.luf_str.specs.Escape as escape_rule
-use Rattle.luf_str.specs.Spelling.{IsUnit, joined, IsShortIn, IsShortSpelling}
+use Rattle.luf_str.specs.Spelling.{IsUnit, unit_bytes, IsShortIn, IsShortSpelling}
 use Rattle.luf_str.specs.Spelling as unit_rule
 use Rattle.luf_str.specs.Value.{IsPart, Part, spelling_of, AreParts}
 use Rattle.luf_str.specs.Value as part_rule
-use Rattle.luf_str.specs.Reading.{line_end_length, unit_length}
+use Rattle.luf_str.specs.inner.Reading.{unit_length, is_ordinary}
 use Rattle.luf_str.specs.Front.{IsEnd}
 use Rattle.luf_str.proofs.Leading.{prefix_len-whole, first_line_byte, line_end_length-is}
 use Rattle.std.proofs.lemmas.Grind.{flat_map-append}
@@ -28,11 +31,11 @@ quote_cases q h =
     ] refl
 
 -- a line end does not begin with z
-line_is_no_z : (line next : List ℕ) → IsLineEnd line next → eqb (get_or (line ++ next) 0 0) 122 ≡ false
+line_is_no_z : (line next : List ℕ) → IsLineEndBefore line next → eqb (get_or (line ++ next) 0 0) 122 ≡ false
 line_is_no_z [] next h = absurd h
 line_is_no_z (a ∷ line) next h = let first = first_line_byte a line next h in grind (arith, nat_tests)
 
-first_is : (line next : List ℕ) → IsLineEnd line next → is_line_byte (get_or (line ++ next) 0 0) ≡ true
+first_is : (line next : List ℕ) → IsLineEndBefore line next → is_line_byte (get_or (line ++ next) 0 0) ≡ true
 first_is [] next h = absurd h
 first_is (a ∷ line) next h = first_line_byte a line next h
 
@@ -41,7 +44,7 @@ when_true b x y h = rw h refl
 
 pub unit_length-is : {q : ℕ} {unit next : List ℕ} → IsUnit q unit next → unit_length (unit ++ next) ≡ length unit
 unit_length-is (unit_rule.plain q b next h) = let no : eqb b 92 ≡ false = grind (arith, nat_tests) in rw no refl
-unit_length-is (unit_rule.skip q spaces next all none) = let n : prefix_len is_space (spaces ++ next) ≡ length spaces = prefix_len-whole is_space spaces next all none in omega arith
+unit_length-is (unit_rule.skip q spaces next all none) = let n : prefix_len is_whitespace (spaces ++ next) ≡ length spaces = prefix_len-whole is_whitespace spaces next all none in omega arith
 unit_length-is (unit_rule.line_end q line next h) =
     let n : line_end_length (line ++ next) ≡ length line = line_end_length-is line next h in
     let more : 1 + line_end_length (line ++ next) ≡ suc (length line) = omega arith in
@@ -57,7 +60,7 @@ quote_is_no_bracket q h e = elim (quote_cases q h) [ inl x ↦ omega arith | inr
 pub plain_is_no_quote : (q b : ℕ) → is_plain q b ≡ true → b ≢ q
 plain_is_no_quote q b h e = grind (arith, nat_tests)
 
-plain_is_no_line : (q b : ℕ) → is_plain q b ≡ true → is_line_byte b ≡ true → ⊥
+pub plain_is_no_line : (q b : ℕ) → is_plain q b ≡ true → is_line_byte b ≡ true → ⊥
 plain_is_no_line q b h line = grind (arith, nat_tests)
 
 -- a unit does not begin with the quote
@@ -79,7 +82,7 @@ AreUnits q units next = AllInPlace (IsUnit q) (λ unit. unit) units next
 
 -- what is left of a short string in the quotes q: units, and the quote
 abbrev pub IsRest : ℕ → List ℕ → Type 0
-IsRest q text = (units : List (List ℕ)) × AreUnits q units (q ∷ []) × (text ≡ joined units ++ q ∷ [])
+IsRest q text = (units : List (List ℕ)) × AreUnits q units (q ∷ []) × (text ≡ unit_bytes units ++ q ∷ [])
 
 pub unit_some : {q : ℕ} {unit next : List ℕ} → IsUnit q unit next → 0 < length unit
 unit_some (unit_rule.plain q b next h) = omega arith
@@ -88,26 +91,22 @@ unit_some (unit_rule.line_end q line next h) = omega arith
 unit_some (unit_rule.other q b next no_z no_line) = omega arith
 
 pub rest_some : (q : ℕ) (next : List ℕ) → IsRest q next → 0 < length next
-rest_some q next rest = omega (arith, ap length rest.2, length-append (joined rest.0) (q ∷ []))
+rest_some q next rest = omega (arith, ap length rest.2, length-append (unit_bytes rest.0) (q ∷ []))
 
-behind_unit : (q : ℕ) (unit next : List ℕ) (units : List (List ℕ)) → is_quote q ≡ true → IsUnit q unit next → AreUnits q units (q ∷ []) → unit ++ next ≡ joined units ++ q ∷ [] → IsRest q next
+behind_unit : (q : ℕ) (unit next : List ℕ) (units : List (List ℕ)) → is_quote q ≡ true → IsUnit q unit next → AreUnits q units (q ∷ []) → unit ++ next ≡ unit_bytes units ++ q ∷ [] → IsRest q next
 behind_unit q unit next [] quote is all e = absurd (unit_begins quote is (ap (λ t. get_or t 0 0) e))
 behind_unit q unit next (u ∷ units) quote is all e =
-    let cut : unit ++ next ≡ u ++ (joined units ++ q ∷ []) = e ∙ append_assoc u (joined units) (q ∷ []) in
+    let cut : unit ++ next ≡ u ++ (unit_bytes units ++ q ∷ []) = e ∙ append_assoc u (unit_bytes units) (q ∷ []) in
     let lengths : length unit ≡ length u = sym (unit_length-is is) ∙ ap unit_length cut ∙ unit_length-is all.0 in
-    (units, all.1, (same_cut unit next u (joined units ++ q ∷ []) cut lengths).1)
+    (units, all.1, (same_cut unit next u (unit_bytes units ++ q ∷ []) cut lengths).1)
 
 pub rest_behind_unit : (q : ℕ) (unit next : List ℕ) → is_quote q ≡ true → IsUnit q unit next → IsRest q (unit ++ next) → IsRest q next
 rest_behind_unit q unit next quote is rest = behind_unit q unit next rest.0 quote is rest.1 rest.2
 
-pub rest_behind : (q : ℕ) (units : List (List ℕ)) (next : List ℕ) → is_quote q ≡ true → AreUnits q units next → IsRest q (joined units ++ next) → IsRest q next
+pub rest_behind : (q : ℕ) (units : List (List ℕ)) (next : List ℕ) → is_quote q ≡ true → AreUnits q units next → IsRest q (unit_bytes units ++ next) → IsRest q next
 rest_behind q [] next quote all rest = rest
 rest_behind q (u ∷ units) next quote all rest =
-    rest_behind q units next quote all.1 (rest_behind_unit q u (joined units ++ next) quote all.0 (subst (IsRest q) (append_assoc u (joined units) next) rest))
-
--- a byte that is plain in either quotes
-abbrev pub is_ordinary : ℕ → Bool
-is_ordinary b = is_plain 34 b && is_plain 39 b
+    rest_behind q units next quote all.1 (rest_behind_unit q u (unit_bytes units ++ next) quote all.0 (subst (IsRest q) (append_assoc u (unit_bytes units) next) rest))
 
 pub ordinary_is_plain : (q b : ℕ) → is_quote q ≡ true → is_ordinary b ≡ true → is_plain q b ≡ true
 ordinary_is_plain q b quote h =
@@ -123,9 +122,9 @@ AllOrdinary bytes = AllByRecursion (λ b. IsTrue (is_ordinary b)) bytes
 abbrev pub singles : List ℕ → List (List ℕ)
 singles bytes = map (λ b. b ∷ []) bytes
 
-pub joined_singles : (bytes : List ℕ) → joined (singles bytes) ≡ bytes
-joined_singles [] = refl
-joined_singles (b ∷ bytes) = ap (λ t. b ∷ t) (joined_singles bytes)
+pub unit_bytes-singles : (bytes : List ℕ) → unit_bytes (singles bytes) ≡ bytes
+unit_bytes-singles [] = refl
+unit_bytes-singles (b ∷ bytes) = ap (λ t. b ∷ t) (unit_bytes-singles bytes)
 
 pub singles_in_place : (q : ℕ) (bytes next : List ℕ) → is_quote q ≡ true → AllOrdinary bytes → AreUnits q (singles bytes) next
 singles_in_place q [] next quote all = tt
@@ -134,8 +133,8 @@ singles_in_place q (b ∷ bytes) next quote all = (unit_rule.plain q b _ (ordina
 -- how an escape is cut into units
 pub data Shape : List ℕ → List ℕ → Type 0 where
   one_byte : (c : ℕ) (others next : List ℕ) → c ≢ 122 → IsFalse (is_line_byte c) → AllOrdinary others → Shape (c ∷ others) next
-  line_end : (line next : List ℕ) → IsLineEnd line next → Shape line next
-  skip : (spaces next : List ℕ) → AllByRecursion (λ b. IsTrue (is_space b)) spaces → NoneAtFront is_space next → Shape (122 ∷ spaces) next
+  line_end : (line next : List ℕ) → IsLineEndBefore line next → Shape line next
+  skip : (spaces next : List ℕ) → AllByRecursion (λ b. IsTrue (is_whitespace b)) spaces → NoneAtFront is_whitespace next → Shape (122 ∷ spaces) next
 
 hex_is_ordinary : (b : ℕ) → is_hex_digit b ≡ true → is_ordinary b ≡ true
 hex_is_ordinary b h = grind (arith, nat_tests)
@@ -166,11 +165,11 @@ shape (escape_rule.code digits next some all small) =
 
 -- the units of an escape
 abbrev pub HasUnits : ℕ → List ℕ → List ℕ → Type 0
-HasUnits q part next = (units : List (List ℕ)) × AreUnits q units next × (part ≡ joined units)
+HasUnits q part next = (units : List (List ℕ)) × AreUnits q units next × (part ≡ unit_bytes units)
 
 escape_units : {escape next : List ℕ} → (q : ℕ) → is_quote q ≡ true → Shape escape next → HasUnits q (92 ∷ escape) next
 escape_units q quote (one_byte c others next no_z no_line all) =
-    ((92 ∷ c ∷ []) ∷ singles others, (unit_rule.other q c _ no_z no_line, singles_in_place q others next quote all), ap (λ t. 92 ∷ c ∷ t) (sym (joined_singles others)))
+    ((92 ∷ c ∷ []) ∷ singles others, (unit_rule.other q c _ no_z no_line, singles_in_place q others next quote all), ap (λ t. 92 ∷ c ∷ t) (sym (unit_bytes-singles others)))
 escape_units q quote (line_end line next h) = ((92 ∷ line) ∷ [], (unit_rule.line_end q line next h, tt), ap (λ t. 92 ∷ t) (sym (append-nil line)))
 escape_units q quote (skip spaces next all none) = ((92 ∷ 122 ∷ spaces) ∷ [], (unit_rule.skip q spaces next all none, tt), ap (λ t. 92 ∷ 122 ∷ t) (sym (append-nil spaces)))
 
@@ -179,30 +178,30 @@ part_units quote (part_rule.plain q b next h) = ((b ∷ []) ∷ [], (unit_rule.p
 part_units quote (part_rule.escape q escape next value h) = escape_units q quote (shape h)
 
 -- the units of parts
-pub parts_units : (q : ℕ) (parts : List Part) (next : List ℕ) → is_quote q ≡ true → AreParts q parts next → (units : List (List ℕ)) × AreUnits q units next × (spelling_of parts ≡ joined units)
+pub parts_units : (q : ℕ) (parts : List Part) (next : List ℕ) → is_quote q ≡ true → AreParts q parts next → (units : List (List ℕ)) × AreUnits q units next × (spelling_of parts ≡ unit_bytes units)
 parts_units q [] next quote all = ([], tt, refl)
 parts_units q (p ∷ parts) next quote all =
     let first = part_units quote all.0 in
     let rest = parts_units q parts next quote all.1 in (
       first.0 ++ rest.0,
       in_place_join (IsUnit q) (λ u. u) first.0 rest.0 next (subst (λ t. AreUnits q first.0 (t ++ next)) rest.2 first.1) rest.1,
-      ap (λ t. t ++ spelling_of parts) first.2 ∙ ap (λ t. joined first.0 ++ t) rest.2 ∙ sym (flat_map-append (λ (u : List ℕ). u) first.0 rest.0),
+      ap (λ t. t ++ spelling_of parts) first.2 ∙ ap (λ t. unit_bytes first.0 ++ t) rest.2 ∙ sym (flat_map-append (λ (u : List ℕ). u) first.0 rest.0),
     )
 
 -- where the quote comes, it alone is left
 pub only_quote : (q : ℕ) (next : List ℕ) → is_quote q ≡ true → IsRest q next → get_or next 0 0 ≡ q → next ≡ q ∷ []
 only_quote q next quote ([], all, e) at = e
-only_quote q next quote (u ∷ units, all, e) at = absurd (unit_begins quote all.0 (ap (λ t. get_or t 0 0) (sym (e ∙ append_assoc u (joined units) (q ∷ []))) ∙ at))
+only_quote q next quote (u ∷ units, all, e) at = absurd (unit_begins quote all.0 (ap (λ t. get_or t 0 0) (sym (e ∙ append_assoc u (unit_bytes units) (q ∷ []))) ∙ at))
 
-quote_is_no_line : (q : ℕ) → is_quote q ≡ true → is_line_byte q ≡ true → ⊥
+pub quote_is_no_line : (q : ℕ) → is_quote q ≡ true → is_line_byte q ≡ true → ⊥
 quote_is_no_line q quote line = elim (quote_cases q quote) [ inl e ↦ false≢true (ap is_line_byte (sym e) ∙ line) | inr e ↦ false≢true (ap is_line_byte (sym e) ∙ line) ]
 
 -- what is left of a short string does not end before its quote
 pub rest_is_no_end : (q : ℕ) (next : List ℕ) → is_quote q ≡ true → IsRest q next → IsEnd next ⊎ (next ≡ 92 ∷ []) → ⊥
 rest_is_no_end q next quote ([], all, e) (inl end) = quote_is_no_line q quote (subst IsEnd e end)
 rest_is_no_end q next quote ([], all, e) (inr lone) = backslash_is_no_quote q quote (ap (λ t. get_or t 0 0) (sym lone ∙ e))
-rest_is_no_end q next quote (u ∷ units, all, e) (inl end) = unit_is_no_end all.0 (subst IsEnd (e ∙ append_assoc u (joined units) (q ∷ [])) end)
+rest_is_no_end q next quote (u ∷ units, all, e) (inl end) = unit_is_no_end all.0 (subst IsEnd (e ∙ append_assoc u (unit_bytes units) (q ∷ [])) end)
 rest_is_no_end q next quote (u ∷ units, all, e) (inr lone) =
     let some = unit_some all.0 in
-    let rest : List ℕ = joined units ++ q ∷ [] in
-    omega (arith, ap length (sym lone ∙ e ∙ append_assoc u (joined units) (q ∷ [])), length-append u rest, length-append (joined units) (q ∷ []))
+    let rest : List ℕ = unit_bytes units ++ q ∷ [] in
+    omega (arith, ap length (sym lone ∙ e ∙ append_assoc u (unit_bytes units) (q ∷ [])), length-append u rest, length-append (unit_bytes units) (q ∷ []))

@@ -1,3 +1,4 @@
+-- The spellings, the values and the escapes of strings, and other quotes; inner is for private functions.
 pub mod Bytes
 pub mod Pieces
 pub mod Escape
@@ -5,6 +6,7 @@ pub mod Meaning
 pub mod Spelling
 pub mod Value
 pub mod Requote
-pub mod Reading
 pub mod Front
 pub mod ShortEnd
+pub mod LongEnd
+pub mod inner

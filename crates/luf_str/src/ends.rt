@@ -6,7 +6,7 @@ ghost use Rattle.luf_str.specs.ShortEnd.{IsShortEnd};
 ghost use Rattle.luf_str.specs.Spelling.{IsShortSpelling};
 ghost use Rattle.luf_str.specs.Value.{IsShortValue, FirstBad};
 
-use crate::bytes::tail;
+use crate::bytes::{leading_ordinary, tail};
 use crate::fronts::{Front, front_of};
 
 /// Where a short string ends that a text begins with.
@@ -30,6 +30,7 @@ pub fn short_end(text: &[u8]) -> ShortEnd
     let quote = text[0];
     let mut at = 1;
     'parts: loop {
+        at += leading_ordinary(tail(text, at));
         match front_of(tail(text, at), quote) {
             Front::Part { length, .. } => at += length,
             Front::Quote => return ShortEnd::Closed { length: at + 1 },

@@ -2,14 +2,13 @@
 
 ghost use Rattle.std.specs.Prelude.{◌≡◌, ◌^◌, ◌<◌, SomeIff, IsTrue, slice_index};
 ghost use Rattle.std.specs.List.{AllPass};
-ghost use Rattle.luf_str.specs.Bytes.{is_digit, is_hex_digit, hex_number};
+ghost use Rattle.std.specs.Str.Parse.{digits_value};
+ghost use Rattle.luf_byte.specs.Class.{is_digit, is_hex_digit};
 ghost use Rattle.luf_str.specs.Escape.{letter_value};
-ghost use Rattle.luf_str.specs.Reading.{hexadecimal_at, decimal_at, code_at, letter_at, escape_at};
+ghost use Rattle.luf_str.specs.inner.Reading.{hexadecimal_at, decimal_at, code_at, letter_at, escape_at};
 
-use crate::bytes::{
-    byte_at, hex_value, is_digit, is_hex_digit, is_line_byte, leading_hex_digits, leading_spaces,
-    line_end_length, tail,
-};
+use crate::bytes::{byte_at, leading_hex_digits, leading_whitespace, tail};
+use luf_byte::{digit_value, is_digit, is_hex_digit, is_line_byte, line_end_length};
 
 /// What a part of a short string stands for.
 #[derive(Clone, Copy, Debug, PartialEq, Eq)]
@@ -40,10 +39,10 @@ fn letter_value(c: u8) -> Option<u8>
 }
 
 /// The number that hexadecimal digits write, if it is below 2^31.
-#[tactic(auto, using(crate::proofs::Numbers::over))]
+#[tactic(auto, using(crate::proofs::Numbers::hex_number_steps))]
 fn hex_number(digits: &[u8]) -> Option<u32>
     requires { AllPass is_hex_digit digits.now }
-    ensures { SomeIff result (hex_number digits.now < 2 ^ 31) (hex_number digits.now) }
+    ensures { SomeIff result (digits_value 16 digits.now < 2 ^ 31) (digits_value 16 digits.now) }
 {
     let mut number = 0;
     for digit in digits {
@@ -51,20 +50,20 @@ fn hex_number(digits: &[u8]) -> Option<u32>
         if number >= 1 << 27 {
             return None;
         }
-        number = 16 * number + u32::from(hex_value(*digit));
+        number = 16 * number + u32::from(digit_value(*digit));
     }
     Some(number)
 }
 
 /// `x` and two hexadecimal digits.
-#[tactic(auto, unfolding(crate::specs::Reading::hexadecimal_at))]
+#[tactic(auto, unfolding(crate::specs::inner::Reading::hexadecimal_at))]
 fn hexadecimal_at(text: &[u8]) -> Option<(usize, Meaning)>
     ensures { result ≡ hexadecimal_at text.now }
 {
     let high = byte_at(text, 1);
     let low = byte_at(text, 2);
     if is_hex_digit(high) && is_hex_digit(low) {
-        let byte = 16 * hex_value(high) + hex_value(low);
+        let byte = 16 * digit_value(high) + digit_value(low);
         Some((3, Meaning::Byte(byte)))
     } else {
         None
@@ -72,7 +71,7 @@ fn hexadecimal_at(text: &[u8]) -> Option<(usize, Meaning)>
 }
 
 /// One to three decimal digits, as many as there are, at most 255.
-#[tactic(auto, unfolding(crate::specs::Reading::decimal_at))]
+#[tactic(auto, unfolding(crate::specs::inner::Reading::decimal_at))]
 fn decimal_at(text: &[u8]) -> Option<(usize, Meaning)>
     requires { IsTrue (is_digit (slice_index text.now 0)) }
     ensures { result ≡ decimal_at text.now }
@@ -81,13 +80,13 @@ fn decimal_at(text: &[u8]) -> Option<(usize, Meaning)>
     let second = byte_at(text, 1);
     let third = byte_at(text, 2);
     if !is_digit(second) {
-        return Some((1, Meaning::Byte(first - b'0')));
+        return Some((1, Meaning::Byte(digit_value(first))));
     }
-    let two = 10 * (first - b'0') + (second - b'0');
+    let two = 10 * digit_value(first) + digit_value(second);
     if !is_digit(third) {
         return Some((2, Meaning::Byte(two)));
     }
-    let three = 10 * u16::from(two) + u16::from(third - b'0');
+    let three = 10 * u16::from(two) + u16::from(digit_value(third));
     if three <= 255 {
         Some((3, Meaning::Byte(three as u8)))
     } else {
@@ -96,7 +95,7 @@ fn decimal_at(text: &[u8]) -> Option<(usize, Meaning)>
 }
 
 /// `u{`, one or more hexadecimal digits of a number below 2^31, and `}`.
-#[tactic(auto, unfolding(crate::specs::Reading::code_at))]
+#[tactic(auto, unfolding(crate::specs::inner::Reading::code_at))]
 fn code_at(text: &[u8]) -> Option<(usize, Meaning)>
     ensures { result ≡ code_at text.now }
 {
@@ -113,7 +112,7 @@ fn code_at(text: &[u8]) -> Option<(usize, Meaning)>
     }
 }
 
-#[tactic(auto, unfolding(crate::specs::Reading::letter_at))]
+#[tactic(auto, unfolding(crate::specs::inner::Reading::letter_at))]
 fn letter_at(text: &[u8]) -> Option<(usize, Meaning)>
     ensures { result ≡ letter_at text.now }
 {
@@ -128,7 +127,7 @@ pub fn escape_at(text: &[u8]) -> Option<(usize, Meaning)>
     let first = byte_at(text, 0);
     match first {
         b'x' => hexadecimal_at(text),
-        b'z' => Some((1 + leading_spaces(tail(text, 1)), Meaning::Nothing)),
+        b'z' => Some((1 + leading_whitespace(tail(text, 1)), Meaning::Nothing)),
         b'u' => code_at(text),
         _ if is_digit(first) => decimal_at(text),
         _ if is_line_byte(first) => Some((line_end_length(text), Meaning::Byte(b'\n'))),

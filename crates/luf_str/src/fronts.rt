@@ -2,8 +2,9 @@
 
 ghost use Rattle.luf_str.specs.Front.{IsFront};
 
-use crate::bytes::{is_line_byte, tail};
+use crate::bytes::tail;
 use crate::escapes::{Meaning, escape_at};
+use luf_byte::is_line_byte;
 
 /// What a text begins with, read as the inside of a short string.
 #[derive(Clone, Copy, Debug, PartialEq, Eq)]

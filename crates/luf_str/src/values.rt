@@ -1,16 +1,20 @@
 //! The value of a string, and the first bad escape.
 
-ghost use Rattle.std.specs.Prelude.{◌≡◌, ℕ, List, ◌++◌, ◌^◌, ◌<◌, length, take, vec_len, OnOk, OnErr, IsErrOf};
+ghost use Rattle.std.specs.Prelude.{◌≡◌, ℕ, List, ◌++◌, ◌^◌, ◌<◌, length, take, vec_len, IfOk, OnOk, OnErr, IsErrOf};
+ghost use Rattle.std.specs.List.{prefix_len};
 ghost use Rattle.luf_str.specs.Escape.{utf8, continuation};
+ghost use Rattle.luf_str.specs.inner.Reading.{is_ordinary};
 ghost use Rattle.luf_str.specs.Meaning.{bytes_of};
-ghost use Rattle.luf_str.specs.Pieces.{Appends};
-ghost use Rattle.luf_str.specs.Spelling.{IsShortSpelling, IsLongSpelling, IsLongOf, IsSpelling};
+ghost use Rattle.luf_str.specs.Pieces.{GrowsBy};
+ghost use Rattle.luf_str.specs.Spelling.{IsShortSpelling, IsLongSpelling, IsLongOf, IsStringSpelling};
 ghost use Rattle.luf_str.specs.Value.{IsShortValue, IsLongText, IsValue, FirstBad};
 
-use crate::bytes::{head, leading_equals, line_end_length, tail};
+use crate::bytes::{head, leading_equals, leading_ordinary, tail};
 use crate::escapes::Meaning;
 use crate::fronts::{Front, front_of};
+use luf_byte::line_end_length;
 use luf_memory::Memory;
+use memchr::memchr2;
 use std::alloc::{AllocError, AllocFailed, Global};
 
 /// Why a string has no value here.
@@ -89,17 +93,30 @@ fn push_meaning(into: &mut Vec<u8>, meaning: Meaning) -> Result<(), Memory>
     Ok(())
 }
 
+/// Appends the ordinary bytes with which a text begins, which stand for themselves in a short string, and says how many
+/// there are.
+pub fn push_ordinary(text: &[u8], into: &mut Vec<u8>) -> Result<usize, Memory>
+    ensures count { IfOk result (λ n. n ≡ prefix_len is_ordinary text.now) }
+    ensures ok { IfOk result (λ n. into.new.items ≡ into.old.items ++ take n text.now) }
+    ensures err { OnErr result (into.new.items ≡ into.old.items) }
+{
+    let count = leading_ordinary(text);
+    into.extend_from_slice(head(text, count))?;
+    Ok(count)
+}
+
 /// Appends the value of a short string, or a front of it before an error.
 fn push_short(spelling: &[u8], into: &mut Vec<u8>) -> Result<(), StrErr>
     requires short { IsShortSpelling spelling.now }
     requires size { length spelling.now < 2 ^ 32 }
-    ensures ok { OnOk result (Appends (IsShortValue spelling.now) into.old.items into.new.items) }
+    ensures ok { OnOk result (GrowsBy (IsShortValue spelling.now) into.old.items into.new.items) }
     ensures bad { (at : ℕ) → IsErrOf result (StrErr.Bad at) → FirstBad spelling.now at }
     ensures err { OnErr result (take (vec_len into.old) into.new.items ≡ into.old.items) }
 {
     let quote = spelling[0];
     let mut at = 1;
     'parts: loop {
+        at += push_ordinary(tail(spelling, at), into)?;
         match front_of(tail(spelling, at), quote) {
             Front::Part { length, meaning } => {
                 push_meaning(into, meaning)?;
@@ -124,28 +141,27 @@ fn long_body(spelling: &[u8]) -> &[u8]
 
 /// Appends the value of a long string's body, or a front of it before an error.
 fn push_lines(body: &[u8], into: &mut Vec<u8>) -> Result<(), Memory>
-    ensures ok { OnOk result (Appends (IsLongText body.now) into.old.items into.new.items) }
+    ensures ok { OnOk result (GrowsBy (IsLongText body.now) into.old.items into.new.items) }
     ensures err { OnErr result (take (vec_len into.old) into.new.items ≡ into.old.items) }
 {
     let mut at = line_end_length(body);
-    while at < body.len() {
-        let line = line_end_length(tail(body, at));
-        if line == 0 {
-            into.push(body[at])?;
-            at += 1;
-        } else {
-            into.push(b'\n')?;
-            at += line;
-        }
+    'lines: loop {
+        let rest = tail(body, at);
+        let Some(line) = memchr2(b'\n', b'\r', rest) else {
+            into.extend_from_slice(rest)?;
+            return Ok(());
+        };
+        into.extend_from_slice(head(rest, line))?;
+        into.push(b'\n')?;
+        at += line + line_end_length(tail(rest, line));
     }
-    Ok(())
 }
 
 /// Appends the value of a string, or a front of it before an error.
 fn push_value(spelling: &[u8], into: &mut Vec<u8>) -> Result<(), StrErr>
-    requires spelling { IsSpelling spelling.now }
+    requires spelling { IsStringSpelling spelling.now }
     requires size { length spelling.now < 2 ^ 32 }
-    ensures ok { OnOk result (Appends (IsValue spelling.now) into.old.items into.new.items) }
+    ensures ok { OnOk result (GrowsBy (IsValue spelling.now) into.old.items into.new.items) }
     ensures bad { (at : ℕ) → IsErrOf result (StrErr.Bad at) → FirstBad spelling.now at }
     ensures err { OnErr result (take (vec_len into.old) into.new.items ≡ into.old.items) }
 {
@@ -161,9 +177,9 @@ fn push_value(spelling: &[u8], into: &mut Vec<u8>) -> Result<(), StrErr>
 ///
 /// A long string has no escapes, and is never `Bad`. After an error `into` is as it was.
 pub fn value_of(_alloc: Global, spelling: &[u8], into: &mut Vec<u8>) -> Result<(), StrErr>
-    requires spelling { IsSpelling spelling.now }
+    requires spelling { IsStringSpelling spelling.now }
     requires size { length spelling.now < 2 ^ 32 }
-    ensures ok { OnOk result (Appends (IsValue spelling.now) into.old.items into.new.items) }
+    ensures ok { OnOk result (GrowsBy (IsValue spelling.now) into.old.items into.new.items) }
     ensures bad { (at : ℕ) → IsErrOf result (StrErr.Bad at) → FirstBad spelling.now at }
     ensures err { OnErr result (into.new.items ≡ into.old.items) }
 {

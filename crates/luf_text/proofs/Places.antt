@@ -1,20 +1,22 @@
 -- Where the lines of a text begin, a stretch at a time.
-use Rattle.std.proofs.Common.{◌≡◌, ℕ, zero, suc, ◌+◌, ◌-◌, ◌<◌, ◌≤◌, true, false, nat_le, List, [], ◌∷◌, ◌++◌, length, drop, get_or, refl, sym, ap, ◌∙◌, arith, ⊎_elim, take, append-nil, drop-drop, length-drop, get_or-drop}
+use Rattle.std.proofs.Common.{◌≡◌, ℕ, zero, suc, ◌+◌, ◌-◌, ◌<◌, ◌≤◌, true, false, nat_le, List, [], ◌∷◌, length, drop, get_or, refl, ap, ◌∙◌, arith, ⊎_elim, take, drop-drop, length-drop, get_or-drop}
 use Rattle.std.proofs.lemmas.List.{drop_more, drop_all, get_or-take, length-take-le}
-use Rattle.std.proofs.lemmas.Bool.{cases_Bool, cond-true, cond-false, lt-leb, le-leb, cases_lt, false_from_ne_true}
+use Rattle.std.proofs.lemmas.Bool.{cases_Bool, cond-false, lt-leb, false_from_ne_true}
 use Rattle.memchr.specs.Find.{Nowhere, NoneBefore, Passes}
-use Rattle.luf_text.specs.Place.{is_break, is_pair, line_starts_from, line_starts, begun_by, last_or, place_in}
+use Rattle.luf_byte.specs.Class.{is_line_byte}
+use Rattle.luf_byte.specs.LineEnd.{is_line_pair}
+use Rattle.luf_text.specs.Place.{line_starts_from, begun_by, last_or}
 use Rattle.luf_text.specs.declared.place.Place.{Place}
 
 -- no line ends at a byte that is no break
-pub past_byte : (at a : ℕ) (rest : List ℕ) → is_break a ≡ false → line_starts_from at (a ∷ rest) ≡ line_starts_from (at + 1) rest
+pub past_byte : (at a : ℕ) (rest : List ℕ) → is_line_byte a ≡ false → line_starts_from at (a ∷ rest) ≡ line_starts_from (at + 1) rest
 past_byte at a [] plain = rw plain refl
 past_byte at a (b ∷ rest) plain =
-    let single : is_pair a b ≡ false = rw plain refl in
+    let single : is_line_pair a b ≡ false = rw plain refl in
     rw single (rw plain refl)
 
 -- nor in a stretch of such bytes
-pub past_bytes : (at n : ℕ) (rest : List ℕ) → n ≤ length rest → ((j : ℕ) → j < n → is_break (get_or rest j 0) ≡ false) → line_starts_from at rest ≡ line_starts_from (at + n) (drop n rest)
+pub past_bytes : (at n : ℕ) (rest : List ℕ) → n ≤ length rest → ((j : ℕ) → j < n → is_line_byte (get_or rest j 0) ≡ false) → line_starts_from at rest ≡ line_starts_from (at + n) (drop n rest)
 past_bytes at zero rest within none = ap (λ n. line_starts_from n rest) (omega arith)
 past_bytes at (suc n) [] within none = refl
 past_bytes at (suc n) (a ∷ rest) within none =
@@ -22,14 +24,14 @@ past_bytes at (suc n) (a ∷ rest) within none =
     ∙ ap (λ place. line_starts_from place (drop n rest)) (omega arith)
 
 -- two bytes that are one line end
-pub past_pair : (at a b : ℕ) (rest : List ℕ) → is_pair a b ≡ true → line_starts_from at (a ∷ b ∷ rest) ≡ (at + 2) ∷ line_starts_from (at + 2) rest
+pub past_pair : (at a b : ℕ) (rest : List ℕ) → is_line_pair a b ≡ true → line_starts_from at (a ∷ b ∷ rest) ≡ (at + 2) ∷ line_starts_from (at + 2) rest
 past_pair at a b rest pair = rw pair refl
 
 -- one byte that is a line end
-pub past_end : (at a : ℕ) → is_break a ≡ true → line_starts_from at (a ∷ []) ≡ (at + 1) ∷ []
+pub past_end : (at a : ℕ) → is_line_byte a ≡ true → line_starts_from at (a ∷ []) ≡ (at + 1) ∷ []
 past_end at a one = rw one refl
 
-pub past_single : (at a b : ℕ) (rest : List ℕ) → is_break a ≡ true → is_pair a b ≡ false → line_starts_from at (a ∷ b ∷ rest) ≡ (at + 1) ∷ line_starts_from (at + 1) (b ∷ rest)
+pub past_single : (at a b : ℕ) (rest : List ℕ) → is_line_byte a ≡ true → is_line_pair a b ≡ false → line_starts_from at (a ∷ b ∷ rest) ≡ (at + 1) ∷ line_starts_from (at + 1) (b ∷ rest)
 past_single at a b rest one single = rw single (rw one refl)
 
 none_first : (at start : ℕ) (starts : List ℕ) → at < start → begun_by at starts ≡ [] → begun_by at (start ∷ starts) ≡ []
@@ -40,15 +42,15 @@ pub none_begun : (at from : ℕ) (rest : List ℕ) → at ≤ from → begun_by 
 none_begun at from [] le = refl
 none_begun at from (a ∷ []) le = ⊎_elim
     (λ one. rw one (none_first at (from + 1) [] (omega arith) refl))
-    (λ plain. rw plain refl) (cases_Bool (is_break a))
+    (λ plain. rw plain refl) (cases_Bool (is_line_byte a))
 none_begun at from (a ∷ b ∷ rest) le = ⊎_elim
     (λ pair. rw pair (none_first at (from + 2) (line_starts_from (from + 2) rest) (omega arith) (none_begun at (from + 2) rest (omega arith))))
     (λ single. rw single (⊎_elim
     (λ one. rw one (none_first at (from + 1) (line_starts_from (from + 1) (b ∷ rest)) (omega arith) (none_begun at (from + 1) (b ∷ rest) (omega arith))))
-    (λ plain. rw plain (none_begun at (from + 1) (b ∷ rest) (omega arith))) (cases_Bool (is_break a)))) (cases_Bool (is_pair a b))
+    (λ plain. rw plain (none_begun at (from + 1) (b ∷ rest) (omega arith))) (cases_Bool (is_line_byte a)))) (cases_Bool (is_line_pair a b))
 
 -- the line end at an index of a text
-pub at_pair : (src : List ℕ) (first : ℕ) → first + 1 < length src → is_pair (get_or src first 0) (get_or src (first + 1) 0) ≡ true
+pub at_pair : (src : List ℕ) (first : ℕ) → first + 1 < length src → is_line_pair (get_or src first 0) (get_or src (first + 1) 0) ≡ true
     → line_starts_from first (drop first src) ≡ (first + 2) ∷ line_starts_from (first + 2) (drop (first + 2) src)
 at_pair src first within pair =
     let next : first + 1 + 1 ≡ first + 2 = omega arith in
@@ -56,8 +58,8 @@ at_pair src first within pair =
     drop_more src first 0 (omega arith) ∙ ap (λ rest. get_or src first 0 ∷ rest) (drop_more src (first + 1) 0 within ∙ ap (λ n. get_or src (first + 1) 0 ∷ drop n src) next) in
     rw here (past_pair first (get_or src first 0) (get_or src (first + 1) 0) (drop (first + 2) src) pair)
 
-pub at_single : (src : List ℕ) (first : ℕ) → first + 1 < length src → is_break (get_or src first 0) ≡ true
-    → is_pair (get_or src first 0) (get_or src (first + 1) 0) ≡ false
+pub at_single : (src : List ℕ) (first : ℕ) → first + 1 < length src → is_line_byte (get_or src first 0) ≡ true
+    → is_line_pair (get_or src first 0) (get_or src (first + 1) 0) ≡ false
     → line_starts_from first (drop first src) ≡ (first + 1) ∷ line_starts_from (first + 1) (drop (first + 1) src)
 at_single src first within one single =
     let later = drop_more src (first + 1) 0 within in
@@ -65,7 +67,7 @@ at_single src first within one single =
     drop_more src first 0 (omega arith) ∙ ap (λ rest. get_or src first 0 ∷ rest) later in
     rw (here, later) (past_single first (get_or src first 0) (get_or src (first + 1) 0) (drop (first + 1 + 1) src) one single)
 
-pub at_last : (src : List ℕ) (first : ℕ) → first + 1 ≡ length src → is_break (get_or src first 0) ≡ true
+pub at_last : (src : List ℕ) (first : ℕ) → first + 1 ≡ length src → is_line_byte (get_or src first 0) ≡ true
     → line_starts_from first (drop first src) ≡ (first + 1) ∷ line_starts_from (first + 1) (drop (first + 1) src)
 at_last src first last one =
     let gone : drop (first + 1) src ≡ [] = drop_all (first + 1) src (omega arith) in
@@ -73,7 +75,7 @@ at_last src first last one =
     rw (here, gone) (past_end first (get_or src first 0) one)
 
 -- a stretch of a text without line ends
-pub past_stretch : (src : List ℕ) (from n : ℕ) → from + n ≤ length src → ((j : ℕ) → j < n → is_break (get_or src (from + j) 0) ≡ false)
+pub past_stretch : (src : List ℕ) (from n : ℕ) → from + n ≤ length src → ((j : ℕ) → j < n → is_line_byte (get_or src (from + j) 0) ≡ false)
     → line_starts_from from (drop from src) ≡ line_starts_from (from + n) (drop (from + n) src)
 past_stretch src from n within none =
     past_bytes from n (drop from src) (rw length-drop (omega arith)) (λ j below. rw get_or-drop (none j below))
@@ -85,19 +87,6 @@ place_from line start at starts =
     let begun = begun_by at starts in
     record { line = line + length begun; column = 1 + at - last_or start begun }
 
--- one line on
-pub place_from-next : (line start at next : ℕ) (starts : List ℕ) → next ≤ at → place_from line start at (next ∷ starts) ≡ place_from (line + 1) next at starts
-place_from-next line start at next starts le =
-    let begun : begun_by at (next ∷ starts) ≡ next ∷ begun_by at starts = cond-true (nat_le next at) _ _ (le-leb next at le) in
-    ap (λ ps. let p : Place = record { line = line + length ps; column = 1 + at - last_or start ps } in p) begun
-    ∙ ap (λ n. let p : Place = record { line = n; column = 1 + at - last_or next (begun_by at starts) } in p) (omega arith)
-
--- on the line itself
-pub place_from-here : (line start at : ℕ) (starts : List ℕ) → begun_by at starts ≡ [] → place_from line start at starts ≡ record { line = line; column = 1 + at - start }
-place_from-here line start at starts none =
-    ap (λ ps. let p : Place = record { line = line + length ps; column = 1 + at - last_or start ps } in p) none
-    ∙ ap (λ n. let p : Place = record { line = n; column = 1 + at - start } in p) (omega arith)
-
 -- no line has begun where the next begins later
 pub none_begun_before : (at next : ℕ) (rest : List ℕ) → at < next → begun_by at (next ∷ line_starts_from next rest) ≡ []
 none_begun_before at next rest later = none_first at next (line_starts_from next rest) later (none_begun at next rest (omega arith))
@@ -107,80 +96,22 @@ module _ (src : List ℕ) (from at : ℕ) (order : from ≤ at) (within : at ≤
   read_in_stretch : (j : ℕ) → from + j < at → get_or (take (at - from) (drop from src)) j 0 ≡ get_or src (from + j) 0
   read_in_stretch j below = get_or-take (at - from) (drop from src) j 0 (omega arith) ∙ get_or-drop from src j 0
 
-  no_break : (j : ℕ) → from + j < at → ¬ (Passes is_break (take (at - from) (drop from src)) j) → is_break (get_or src (from + j) 0) ≡ false
-  no_break j below none = rw (← read_in_stretch j below) (false_from_ne_true (is_break (get_or (take (at - from) (drop from src)) j 0)) none)
+  no_break : (j : ℕ) → from + j < at → ¬ (Passes is_line_byte (take (at - from) (drop from src)) j) → is_line_byte (get_or src (from + j) 0) ≡ false
+  no_break j below none = rw (← read_in_stretch j below) (false_from_ne_true (is_line_byte (get_or (take (at - from) (drop from src)) j 0)) none)
 
   stretch_len : length (take (at - from) (drop from src)) ≡ at - from
   stretch_len = length-take-le (at - from) (drop from src) (rw length-drop (omega arith))
 
   -- up to the first break
-  pub past_to_first : (found : ℕ) → NoneBefore (Passes is_break (take (at - from) (drop from src))) 0 (length (take (at - from) (drop from src))) found
+  pub past_to_first : (found : ℕ) → NoneBefore (Passes is_line_byte (take (at - from) (drop from src))) 0 (length (take (at - from) (drop from src))) found
       → line_starts_from from (drop from src) ≡ line_starts_from (from + found) (drop (from + found) src)
   past_to_first found first = past_stretch src from found (omega (arith, first.high, stretch_len))
       (λ j below. no_break j (omega (arith, first.high, stretch_len)) (first.before j (omega arith) below))
 
   -- where there is none
-  pub none_begun_in : Nowhere (Passes is_break (take (at - from) (drop from src))) 0 (length (take (at - from) (drop from src)))
+  pub none_begun_in : Nowhere (Passes is_line_byte (take (at - from) (drop from src))) 0 (length (take (at - from) (drop from src)))
       → begun_by at (line_starts_from from (drop from src)) ≡ []
   none_begun_in nowhere =
       let all : line_starts_from from (drop from src) ≡ line_starts_from (from + (at - from)) (drop (from + (at - from)) src) =
       past_stretch src from (at - from) (omega arith) (λ j below. no_break j (omega arith) (nowhere j (omega arith) (omega (arith, stretch_len)))) in
       rw all (none_begun at (from + (at - from)) (drop (from + (at - from)) src) (omega arith))
-
--- no line end goes across the cut between a and b: the byte before it and the byte after it are no pair
-abbrev pub NoPairAcross : List ℕ → List ℕ → Type 0
-NoPairAcross a b = is_pair (last_or 0 a) (get_or b 0 0) ≡ false
-
-apart_after : (y : ℕ) (a b : List ℕ) → is_pair (last_or y a) (get_or b 0 0) ≡ false → NoPairAcross a b
-apart_after y [] b apart = refl
-apart_after y (x ∷ a) b apart = apart
-
--- the lines that begin in a, and those that begin in what follows it
-pub line_starts_from-append : (at : ℕ) (a b : List ℕ) → NoPairAcross a b → line_starts_from at (a ++ b) ≡ line_starts_from at a ++ line_starts_from (at + length a) b
-line_starts_from-append at [] b apart = ap (λ place. line_starts_from place b) (omega arith)
-line_starts_from-append at (x ∷ []) [] apart = sym (append-nil (line_starts_from at (x ∷ [])))
-line_starts_from-append at (x ∷ []) (y ∷ b) apart = rw apart (⊎_elim (λ one. rw one refl) (λ plain. rw plain refl) (cases_Bool (is_break x)))
-line_starts_from-append at (x ∷ y ∷ a) b apart =
-    let place : at + 1 + suc (length a) ≡ at + suc (suc (length a)) = omega arith in
-    let later : line_starts_from (at + 1) (y ∷ (a ++ b)) ≡ line_starts_from (at + 1) (y ∷ a) ++ line_starts_from (at + suc (suc (length a))) b =
-    line_starts_from-append (at + 1) (y ∷ a) b apart ∙ ap (λ n. line_starts_from (at + 1) (y ∷ a) ++ line_starts_from n b) place in
-    ⊎_elim
-    (λ pair.
-    let after : line_starts_from (at + 2) (a ++ b) ≡ line_starts_from (at + 2) a ++ line_starts_from (at + suc (suc (length a))) b =
-    line_starts_from-append (at + 2) a b (apart_after y a b apart) ∙ ap (λ n. line_starts_from (at + 2) a ++ line_starts_from n b) (omega arith) in
-    rw pair (ap (λ starts. (at + 2) ∷ starts) after))
-    (λ single. rw single (⊎_elim
-    (λ one. rw one (ap (λ starts. (at + 1) ∷ starts) later))
-    (λ plain. rw plain later) (cases_Bool (is_break x)))) (cases_Bool (is_pair x y))
-
--- a text's first byte is on line 1, in column 1
-pub place_in-zero : (src : List ℕ) → place_in src 0 ≡ record { line = 1; column = 1 }
-place_in-zero src = place_from-here 1 0 0 (line_starts src) (none_begun 0 0 src (omega arith))
-
-counted_first : (at from start : ℕ) (rest : List ℕ) → from < start → from ≤ at
-    → (start ≤ at → length (begun_by at (line_starts_from start rest)) + start ≤ at) → length (begun_by at (start ∷ line_starts_from start rest)) + from ≤ at
-counted_first at from start rest later le more = ⊎_elim
-    (λ after.
-    let none = none_begun_before at start rest after in
-    rw none (omega arith))
-    (λ begun.
-    let split : begun_by at (start ∷ line_starts_from start rest) ≡ start ∷ begun_by at (line_starts_from start rest) = cond-true (nat_le start at) _ _ (le-leb start at begun) in
-    rw split (omega (arith, more begun))) (cases_lt at start)
-
--- at most as many lines begin after a place, and by another, as there are bytes between
-pub length-begun_by-le : (at from : ℕ) (rest : List ℕ) → from ≤ at → length (begun_by at (line_starts_from from rest)) + from ≤ at
-length-begun_by-le at from [] le = omega arith
-length-begun_by-le at from (a ∷ []) le = ⊎_elim
-    (λ one. rw one (counted_first at from (from + 1) [] (omega arith) le (λ begun. omega arith)))
-    (λ plain. rw plain (omega arith)) (cases_Bool (is_break a))
-length-begun_by-le at from (a ∷ b ∷ rest) le = ⊎_elim
-    (λ pair. rw pair (counted_first at from (from + 2) rest (omega arith) le (length-begun_by-le at (from + 2) rest)))
-    (λ single. rw single (⊎_elim
-    (λ one. rw one (counted_first at from (from + 1) (b ∷ rest) (omega arith) le (length-begun_by-le at (from + 1) (b ∷ rest))))
-    (λ plain. rw plain (⊎_elim
-    (λ after. rw (none_begun at (from + 1) (b ∷ rest) (omega arith)) (omega arith))
-    (λ begun. omega (arith, length-begun_by-le at (from + 1) (b ∷ rest) begun)) (cases_lt at (from + 1)))) (cases_Bool (is_break a)))) (cases_Bool (is_pair a b))
-
--- a line's number is at most 1 more than the bytes before it
-pub place_in-line-le : (src : List ℕ) (at : ℕ) → (place_in src at).line ≤ at + 1
-place_in-line-le src at = omega (arith, length-begun_by-le at 0 src (omega arith))

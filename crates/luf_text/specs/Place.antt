@@ -1,24 +1,18 @@
 -- Lines and columns of a text.
-use Rattle.std.specs.Prelude.{ℕ, ◌+◌, ◌-◌, Bool, ◌&&◌, ◌||◌, ◌==◌, nat_le, not, List, [], ◌∷◌, length, filter, if◌then◌else◌}
+use Rattle.std.specs.Prelude.{ℕ, ◌+◌, ◌-◌, nat_le, List, [], ◌∷◌, length, filter, if◌then◌else◌}
+use Rattle.luf_byte.specs.Class.{is_line_byte}
+use Rattle.luf_byte.specs.LineEnd.{is_line_pair}
 use Rattle.luf_text.specs.declared.place.Place.{Place}
-
--- a byte of a line end: LF or CR
-abbrev pub is_break : ℕ → Bool
-is_break b = b == 10 || b == 13
-
--- CR LF and LF CR are one line end: two bytes of line ends that differ
-abbrev pub is_pair : ℕ → ℕ → Bool
-is_pair a b = is_break a && is_break b && not (a == b)
 
 -- The places directly after each line end, in order, for bytes of which the first stands at place `at`. CR, LF, CR LF
 -- and LF CR are each one line end, and the longest is taken, from the left (after the sequences of line ends that the
 -- Lua 5.4 manual, 3.1, names for long brackets).
 abbrev pub line_starts_from : ℕ → List ℕ → List ℕ
 line_starts_from at [] = []
-line_starts_from at (a ∷ []) = if is_break a then (at + 1) ∷ [] else []
+line_starts_from at (a ∷ []) = if is_line_byte a then (at + 1) ∷ [] else []
 line_starts_from at (a ∷ b ∷ rest) =
-    if is_pair a b then (at + 2) ∷ line_starts_from (at + 2) rest
-    else if is_break a then (at + 1) ∷ line_starts_from (at + 1) (b ∷ rest)
+    if is_line_pair a b then (at + 2) ∷ line_starts_from (at + 2) rest
+    else if is_line_byte a then (at + 1) ∷ line_starts_from (at + 1) (b ∷ rest)
     else line_starts_from (at + 1) (b ∷ rest)
 
 -- the places at which the lines of a text after the first begin

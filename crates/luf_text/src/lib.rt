@@ -3,8 +3,6 @@
 
 mod bytes;
 mod place;
-#[cfg(test)]
-mod tests;
 
 pub use bytes::Bytes;
 pub use luf_memory::Memory;

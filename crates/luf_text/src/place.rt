@@ -1,6 +1,8 @@
 ghost use Rattle.std.specs.Prelude.{◌≡◌, ℕ, ◌+◌, ◌-◌, ◌^◌, ◌<◌, ◌≤◌, [], ◌∷◌, length, drop, slice_index, IfSome, IsTrue, MatchOption};
-ghost use Rattle.luf_text.specs.Place.{begun_by, is_break, is_pair, line_starts_from, place_in};
+ghost use Rattle.luf_byte.specs.Class.{is_line_byte};
+ghost use Rattle.luf_text.specs.Place.{begun_by, line_starts_from, place_in};
 
+use luf_byte::is_line_pair;
 use memchr::memchr2;
 
 /// A place in a text. Lines and columns are counted from 1, and columns are counted in bytes.
@@ -47,21 +49,14 @@ fn next_start(src: &[u8], from: u32, at: u32) -> Option<u32>
 /// The place after the line end that begins at `first`.
 fn line_end(src: &[u8], first: usize) -> usize
     requires within { first < length src.now }
-    requires at_break { IsTrue (is_break (slice_index src.now first)) }
+    requires at_line_byte { IsTrue (is_line_byte (slice_index src.now first)) }
     requires room { length src.now < 2 ^ 32 - 1 }
     ensures order { (first < result) × (result ≤ length src.now) }
     ensures next { line_starts_from first (drop first src.now) ≡ result ∷ line_starts_from result (drop result src.now) }
 {
-    if first + 1 < src.len() && is_pair(src[first], src[first + 1]) {
+    if first + 1 < src.len() && is_line_pair(src[first], src[first + 1]) {
         first + 2
     } else {
         first + 1
     }
-}
-
-/// Whether two bytes are one line end: CR LF or LF CR.
-fn is_pair(a: u8, b: u8) -> bool
-    ensures { result ≡ is_pair a b }
-{
-    (a == b'\n' || a == b'\r') && (b == b'\n' || b == b'\r') && a != b
 }

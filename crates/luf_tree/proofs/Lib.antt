@@ -6,4 +6,8 @@ pub mod LevelEquations
 pub mod LevelMap
 pub mod LevelReads
 pub mod LevelExamples
+pub mod EntryLevels
+pub mod EntryExamples
 pub mod TokenLaws
+pub mod Locality
+pub mod Alone

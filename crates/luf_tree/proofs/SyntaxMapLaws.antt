@@ -103,11 +103,11 @@ module _ {K : syntax.Shape} where
     pub function_body_id : (x : syntax.FunctionBody K) → map_function_body unchanged x ≡ x
     function_body_id (syntax.function_body span parameters vararg body) = λ i. syntax.function_body span (map-id parameters i) vararg (block_id body i)
 
-map_after : {A B C : Type 0} (f : A → B) (g : B → C) (xs : List A) → map g (map f xs) ≡ map (λ x. g (f x)) xs
+pub map_after : {A B C : Type 0} (f : A → B) (g : B → C) (xs : List A) → map g (map f xs) ≡ map (λ x. g (f x)) xs
 map_after f g [] = refl
 map_after f g (x ∷ xs) = λ i. g (f x) ∷ map_after f g xs i
 
-option_after : {A B C : Type 0} (f : A → B) (g : B → C) (x : Option A) → option_map g (option_map f x) ≡ option_map (λ x. g (f x)) x
+pub option_after : {A B C : Type 0} (f : A → B) (g : B → C) (x : Option A) → option_map g (option_map f x) ≡ option_map (λ x. g (f x)) x
 option_after f g None = refl
 option_after f g (Some x) = refl
 

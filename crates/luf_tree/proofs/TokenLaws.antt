@@ -19,7 +19,7 @@ use Rattle.luf_tree.specs.declared.tree.Step.{Step}
 use Rattle.luf_tree.specs.declared.tree.Suffix.{Suffix}
 use Rattle.luf_tree.specs.declared.tree.Args.{Args}
 use Rattle.luf_tree.specs.declared.tree.Field.{Field}
-use Rattle.luf_tree.specs.Operator.{sign_level, binary_level, is_unary_word, is_unary_sign, is_unary}
+use Rattle.luf_tree.specs.Operator.{sign_precedence, binary_precedence, is_unary_word, is_unary_sign, is_unary}
 use Rattle.luf_tree.specs.First.{word_starts_expr, sign_starts_expr, token_starts_expr, starts_expr, starts_stat}
 use Rattle.luf_tree.specs.Grammar as g
 use Rattle.luf_tree.specs.Grammar.{At, IsToken, IsString, AreNames, AreParams, IsAttribute, AreDeclared, IsPath, IsMethod, IsSemicolon, IsExpr, AreSteps, IsOperand, IsSimple, IsPrefix, IsVariable, IsCall, IsParen, IsHead, AreSuffixes, IsSuffix, IsArgs, AreExprs, IsTable, AreFields, IsField, IsFuncBody, IsBlock, AreStats, IsReturn, IsStat, AreTargets, IsArm, AreArms, IsElse, IsForStep, IsChunk}
@@ -177,11 +177,11 @@ key {toks} {n} {i} {j} {k} t d inner = opening ⨾ inner
     opening : Brackets toks i j
     opening = let next = t.next in record { forward = omega arith; opens = λ p from to there. ap (λ q. starts_expr (slice_get toks q)) (omega arith) ∙ expr_starts d }
 
-binary_sign_other : (s : Sign) → 0 < sign_level s → is_bracket (tok.Sign s) ≡ false
+binary_sign_other : (s : Sign) → 0 < sign_precedence s → is_bracket (tok.Sign s) ≡ false
 binary_sign_other sign.LeftBracket h = absurd (omega arith)
 binary_sign_other _ h = refl
 
-binary_other : (t : Tok) → 0 < binary_level t → is_bracket t ≡ false
+binary_other : (t : Tok) → 0 < binary_precedence t → is_bracket t ≡ false
 binary_other (tok.Sign s) h = binary_sign_other s h
 binary_other _ h = refl
 

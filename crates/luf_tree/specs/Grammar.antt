@@ -2,9 +2,9 @@
 -- says that the tokens from one place to another, which is excluded, form a part of the tree.
 --
 -- The manual leaves two things to its text, and here they are part of the grammar. Precedence (3.4.8): an
--- expression has a level, from 1 on, and operands of one level stand in one chain; `IsExpr toks 1` is any
+-- expression has a precedence, from 1 on, and operators of one precedence stand in one chain; `IsExpr toks 1` is any
 -- expression. And a `(` that can continue a call continues it (after 3.3.1): no `(` follows a prefix expression
--- that is whole (`IsClosed`). So of two statements the first does not end in a prefix expression where the second
+-- that is whole (`NoParenFollows`). So of two statements the first does not end in a prefix expression where the second
 -- begins with `(`.
 use Rattle.std.specs.Prelude.{◌≡◌, ℕ, ◌+◌, ◌<◌, ◌≤◌, ◌⊎◌, Bool, true, false, Option, Some, None, List, [], ◌∷◌, length, slice_get}
 use Rattle.luf_lex.specs.declared.token.Tok.{Tok}
@@ -28,7 +28,7 @@ use Rattle.luf_tree.specs.declared.tree.Suffix.TheVariants as suffix
 use Rattle.luf_tree.specs.declared.tree.Args.{Args, roll-Args}
 use Rattle.luf_tree.specs.declared.tree.Field.{Field}
 use Rattle.luf_tree.specs.declared.tree.Field.TheVariants as field
-use Rattle.luf_tree.specs.Operator.{binary_level, is_unary}
+use Rattle.luf_tree.specs.Operator.{binary_precedence, is_unary}
 
 -- this token stands at this place
 abbrev pub At : List Tok → ℕ → Tok → Type 0
@@ -44,8 +44,8 @@ abbrev pub IsString : List Tok → ℕ → ℕ → Type 0
 IsString toks i j = IsToken toks i Short j ⊎ IsToken toks i Long j
 
 -- no `(` stands there, which would continue a prefix expression that ends before it
-abbrev pub IsClosed : List Tok → ℕ → Type 0
-IsClosed toks i = At toks i (Sign sign.LeftParen) → ⊥
+abbrev pub NoParenFollows : List Tok → ℕ → Type 0
+NoParenFollows toks i = At toks i (Sign sign.LeftParen) → ⊥
 
 -- an expression or a statement of the tokens from i to j
 abbrev pub expression : ℕ → ℕ → ExprKind → Expr
@@ -94,17 +94,17 @@ pub data IsSemicolon (toks : List Tok) : ℕ → ℕ → Type 0 where
   a_semicolon : {i j : ℕ} → IsToken toks i (Sign sign.Semicolon) j → IsSemicolon toks i j
 
 mutual
-  -- an expression of a level or a higher one: an operand, or a chain of one level whose operands are of higher ones
+  -- an expression of a precedence or a higher one: an operand, or a chain of operators of one precedence between operands of higher ones
   pub data IsExpr (toks : List Tok) : ℕ → ℕ → ℕ → Expr → Type 0 where
     operand_expr : {n i j : ℕ} {e : Expr} → IsOperand toks i j e → IsExpr toks n i j e
     chain_expr : {n m i j k : ℕ} {first : Expr} {rest : List Step} → 0 < m → n ≤ m → IsExpr toks (m + 1) i j first → AreSteps toks m j k rest
         → IsExpr toks n i k (expression i k (expr.Chain first rest))
 
-  -- operators of a level, each with its right operand
+  -- operators of one precedence, each with its right operand
   pub data AreSteps (toks : List Tok) : ℕ → ℕ → ℕ → List Step → Type 0 where
-    one_step : {m i j k : ℕ} {tok : Tok} {e : Expr} → IsToken toks i tok j → binary_level tok ≡ m → IsExpr toks (m + 1) j k e
+    one_step : {m i j k : ℕ} {tok : Tok} {e : Expr} → IsToken toks i tok j → binary_precedence tok ≡ m → IsExpr toks (m + 1) j k e
         → AreSteps toks m i k (roll-Step (record { sign = i; right = e }) ∷ [])
-    more_steps : {m i j k l : ℕ} {tok : Tok} {e : Expr} {rest : List Step} → IsToken toks i tok j → binary_level tok ≡ m → IsExpr toks (m + 1) j k e
+    more_steps : {m i j k l : ℕ} {tok : Tok} {e : Expr} {rest : List Step} → IsToken toks i tok j → binary_precedence tok ≡ m → IsExpr toks (m + 1) j k e
         → AreSteps toks m k l rest → AreSteps toks m i l (roll-Step (record { sign = i; right = e }) ∷ rest)
 
   -- what stands between binary operators: `^` binds tighter than a unary operator on its left, and groups to the right
@@ -125,7 +125,7 @@ mutual
     vararg_simple : {i j : ℕ} → IsToken toks i (Sign sign.Dots) j → IsSimple toks i j (expression i j expr.Vararg)
     function_simple : {i j k : ℕ} {f : FuncBody} → IsToken toks i (Word word.Function) j → IsFuncBody toks j k f → IsSimple toks i k (expression i k (expr.Function f))
     table_simple : {i j : ℕ} {fields : List Field} → IsTable toks i j fields → IsSimple toks i j (expression i j (expr.Table fields))
-    prefix_simple : {i j : ℕ} {e : Expr} → IsPrefix toks i j e → IsClosed toks j → IsSimple toks i j e
+    prefix_simple : {i j : ℕ} {e : Expr} → IsPrefix toks i j e → NoParenFollows toks j → IsSimple toks i j e
 
   -- prefix = var | call | '(' exp ')'
   pub data IsPrefix (toks : List Tok) : ℕ → ℕ → Expr → Type 0 where
@@ -238,7 +238,7 @@ mutual
     assign_stat : {i j k l : ℕ} {targets es : List Expr} → AreTargets toks i j targets → IsToken toks j (Sign sign.Assign) k → AreExprs toks k l es
         → IsStat toks i l (statement i l (stat.Assign targets es))
     -- call
-    call_stat : {i j : ℕ} {e : Expr} → IsCall toks i j e → IsClosed toks j → IsStat toks i j (statement i j (stat.Call e))
+    call_stat : {i j : ℕ} {e : Expr} → IsCall toks i j e → NoParenFollows toks j → IsStat toks i j (statement i j (stat.Call e))
     -- 'do' block 'end'
     do_stat : {i j k l : ℕ} {body : Block} → IsToken toks i (Word word.Do) j → IsBlock toks j k body → IsToken toks k (Word word.End) l
         → IsStat toks i l (statement i l (stat.Do body))

@@ -1,8 +1,11 @@
 pub mod Operator
 pub mod First
 pub mod Grammar
+pub mod Agree
 pub mod Syntax
 pub mod TokenSyntax
 pub mod SyntaxMap
+pub mod Span
 pub mod SyntaxOf
 pub mod Level
+pub mod Entry

@@ -7,37 +7,37 @@ use Rattle.luf_lex.specs.declared.token.Word.TheVariants as word
 use Rattle.luf_lex.specs.declared.token.Sign.{Sign}
 use Rattle.luf_lex.specs.declared.token.Sign.TheVariants as sign
 
-abbrev pub word_level : Word → ℕ
-word_level word.Or = 1
-word_level word.And = 2
-word_level _ = 0
+abbrev pub word_precedence : Word → ℕ
+word_precedence word.Or = 1
+word_precedence word.And = 2
+word_precedence _ = 0
 
-abbrev pub sign_level : Sign → ℕ
-sign_level sign.Less = 3
-sign_level sign.Greater = 3
-sign_level sign.LessEqual = 3
-sign_level sign.GreaterEqual = 3
-sign_level sign.NotEqual = 3
-sign_level sign.Equal = 3
-sign_level sign.Bar = 4
-sign_level sign.Tilde = 5
-sign_level sign.Amp = 6
-sign_level sign.ShiftLeft = 7
-sign_level sign.ShiftRight = 7
-sign_level sign.DotDot = 8
-sign_level sign.Plus = 9
-sign_level sign.Minus = 9
-sign_level sign.Star = 10
-sign_level sign.Slash = 10
-sign_level sign.SlashSlash = 10
-sign_level sign.Percent = 10
-sign_level _ = 0
+abbrev pub sign_precedence : Sign → ℕ
+sign_precedence sign.Less = 3
+sign_precedence sign.Greater = 3
+sign_precedence sign.LessEqual = 3
+sign_precedence sign.GreaterEqual = 3
+sign_precedence sign.NotEqual = 3
+sign_precedence sign.Equal = 3
+sign_precedence sign.Bar = 4
+sign_precedence sign.Tilde = 5
+sign_precedence sign.Amp = 6
+sign_precedence sign.ShiftLeft = 7
+sign_precedence sign.ShiftRight = 7
+sign_precedence sign.DotDot = 8
+sign_precedence sign.Plus = 9
+sign_precedence sign.Minus = 9
+sign_precedence sign.Star = 10
+sign_precedence sign.Slash = 10
+sign_precedence sign.SlashSlash = 10
+sign_precedence sign.Percent = 10
+sign_precedence _ = 0
 
 -- the precedence of a binary operator other than `^`, from low to high; 0 is no such operator
-abbrev pub binary_level : Tok → ℕ
-binary_level (tok.Word w) = word_level w
-binary_level (tok.Sign s) = sign_level s
-binary_level _ = 0
+abbrev pub binary_precedence : Tok → ℕ
+binary_precedence (tok.Word w) = word_precedence w
+binary_precedence (tok.Sign s) = sign_precedence s
+binary_precedence _ = 0
 
 abbrev pub is_unary_word : Word → Bool
 is_unary_word word.Not = true

@@ -1,5 +1,5 @@
 -- The same syntax with other spans, names, labels and leaves.
-use Rattle.std.specs.Prelude.{List, map}
+use Rattle.std.specs.Prelude.{map}
 use Rattle.std.specs.Option.{option_map}
 use Rattle.luf_tree.specs.Syntax as syntax
 

@@ -41,13 +41,13 @@ fn of_stat(s: &Stat) -> u32
             of_exprs(targets.as_slice()).max(of_exprs(values.as_slice()))
         }
         StatKind::Call(e) => of_expr(e),
-        StatKind::Do(body) => deeper(of_block(body)),
-        StatKind::While { test, body } => of_expr(test).max(deeper(of_block(body))),
-        StatKind::Repeat { body, test } => deeper(of_block(body)).max(of_expr(test)),
+        StatKind::Do(body) => deeper(of_block(body.get())),
+        StatKind::While { test, body } => { of_expr(test.get()).max(deeper(of_block(body.get()))) }
+        StatKind::Repeat { body, test } => deeper(of_block(body)).max(of_expr(test.get())),
         StatKind::If { arms, last } => {
             let arms = of_arms(arms.as_slice());
             match last {
-                Some(body) => arms.max(deeper(of_block(body))),
+                Some(body) => arms.max(deeper(of_block(body.get()))),
                 None => arms,
             }
         }
@@ -59,19 +59,19 @@ fn of_stat(s: &Stat) -> u32
             ..
         } => {
             let step = match step {
-                Some(e) => of_expr(e),
+                Some(e) => of_expr(e.get()),
                 None => 0,
             };
-            of_expr(first)
-                .max(of_expr(limit))
+            of_expr(first.get())
+                .max(of_expr(limit.get()))
                 .max(step)
-                .max(deeper(of_block(body)))
+                .max(deeper(of_block(body.get())))
         }
         StatKind::ForIn { values, body, .. } => {
-            of_exprs(values.as_slice()).max(deeper(of_block(body)))
+            of_exprs(values.as_slice()).max(deeper(of_block(body.get())))
         }
-        StatKind::Function { body, .. } => deeper(of_block(&body.body)),
-        StatKind::LocalFunction { body, .. } => deeper(of_block(&body.body)),
+        StatKind::Function { body, .. } => deeper(of_block(&body.get().body)),
+        StatKind::LocalFunction { body, .. } => deeper(of_block(&body.get().body)),
         StatKind::Return(values) => of_exprs(values.as_slice()),
     }
 }
@@ -166,7 +166,7 @@ fn of_suffix(s: &Suffix) -> u32
 {
     match s {
         Suffix::Dot(_) => 0,
-        Suffix::Index(e) => deeper(of_expr(e)),
+        Suffix::Index(e) => deeper(of_expr(e.get())),
         Suffix::Call(args) => deeper(of_exprs(args.items.as_slice())),
         Suffix::Method { args, .. } => deeper(of_exprs(args.items.as_slice())),
     }
@@ -190,7 +190,7 @@ fn of_field(f: &Field) -> u32
     match f {
         Field::Item(e) => of_expr(e),
         Field::Named { value, .. } => of_expr(value),
-        Field::Keyed { key, value } => deeper(of_expr(key)).max(of_expr(value)),
+        Field::Keyed { key, value } => deeper(of_expr(key.get())).max(of_expr(value)),
     }
 }
 

@@ -1,4 +1,7 @@
 // The tree. All numbers are token numbers; `from` is the first token of a part and `to` one past its last.
+//
+// Statements, fields and suffixes stand in lists, so their large parts are boxed: a `Stat` and a `Field` take 64 bytes, a
+// `Suffix` 48.
 
 use sqlite_items::{Boxed, Items};
 
@@ -41,41 +44,41 @@ pub enum StatKind {
         values: Items<Expr>,
     },
     Call(Expr),
-    Do(Block),
+    Do(Boxed<Block>),
     While {
-        test: Expr,
-        body: Block,
+        test: Boxed<Expr>,
+        body: Boxed<Block>,
     },
     Repeat {
         body: Block,
-        test: Expr,
+        test: Boxed<Expr>,
     },
     /// The arms of `if` and of each `elseif`, and the block of `else`.
     If {
         arms: Items<Arm>,
-        last: Option<Block>,
+        last: Option<Boxed<Block>>,
     },
     For {
         name: u32,
-        first: Expr,
-        limit: Expr,
-        step: Option<Expr>,
-        body: Block,
+        first: Boxed<Expr>,
+        limit: Boxed<Expr>,
+        step: Option<Boxed<Expr>>,
+        body: Boxed<Block>,
     },
     ForIn {
-        names: Items<u32>,
+        names: Boxed<Items<u32>>,
         values: Items<Expr>,
-        body: Block,
+        body: Boxed<Block>,
     },
     /// `function a.b:c`: the path is `a`, `b`, and the method `c`.
     Function {
         path: Items<u32>,
         method: Option<u32>,
-        body: FuncBody,
+        body: Boxed<FuncBody>,
     },
     LocalFunction {
         name: u32,
-        body: FuncBody,
+        body: Boxed<FuncBody>,
     },
     Label(u32),
     Goto(u32),
@@ -164,7 +167,7 @@ pub struct Step {
 #[derive(Debug, Drop)]
 pub enum Suffix {
     Dot(u32),
-    Index(Expr),
+    Index(Boxed<Expr>),
     Call(Args),
     Method { name: u32, args: Args },
 }
@@ -185,5 +188,5 @@ pub struct Args {
 pub enum Field {
     Item(Expr),
     Named { name: u32, value: Expr },
-    Keyed { key: Expr, value: Expr },
+    Keyed { key: Boxed<Expr>, value: Expr },
 }

@@ -2,12 +2,15 @@
 use Rattle.std.proofs.Common.{◌≡◌, ℕ, Bool, true, false, cond, eqb, ◌||◌, List, [], ◌∷◌, ◌++◌, length, take, append-nil, refl, sym, ap, ◌∙◌, arith}
 use Rattle.std.proofs.lemmas.Bool.{false≢true, false_from_ne_true, or_left, or_right, and_parts}
 use Rattle.std.proofs.lemmas.Bool.Decides.{nat_tests}
-use Rattle.luf_num.specs.Digit.{is_digit}
-use Rattle.luf_str.specs.Bytes.{is_quote, is_line_byte}
-use Rattle.luf_lex.specs.Byte.{is_letter, is_word_byte, is_blank, begins}
+use Rattle.luf_byte.specs.Class.{is_digit, is_line_byte, is_letter, is_word_byte, is_blank}
+use Rattle.luf_str.specs.Bytes.{is_quote}
+use Rattle.luf_byte.specs.Front.{begins}
 use Rattle.luf_lex.specs.Sign.{sign_spelling}
-use Rattle.luf_lex.specs.Spelling.{Spells, opens_long}
-use Rattle.luf_lex.specs.First.{Group, Quoted, Bracketed, Commented, Numeric, Other, IsFirst, is_tried, group_of, begins_comment, begins_numeral}
+use Rattle.luf_lex.specs.Spelling.{Spells}
+use Rattle.luf_str.specs.LongEnd.{opens_long}
+use Rattle.luf_lex.specs.First.{IsFirst, is_tried, group_of, begins_comment, begins_numeral}
+use Rattle.luf_lex.specs.declared.group.Group.{Group}
+use Rattle.luf_lex.specs.declared.group.Group.TheVariants.{Quoted, Bracketed, Commented, Numeric, Other}
 use Rattle.luf_lex.specs.declared.token.Tok.{Tok}
 use Rattle.luf_lex.specs.declared.token.Tok.TheVariants.{Name, Number, Short, Long, Word, Sign}
 use Rattle.luf_lex.specs.declared.token.Sign.{Sign as Mark}

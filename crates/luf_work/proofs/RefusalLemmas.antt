@@ -1,5 +1,5 @@
 -- When a source has a minified text, and which, and when it has a cause of a refusal, and which.
-use Rattle.std.proofs.Common.{◌≡◌, ◌≢◌, ◌⊎◌, inl, inr, ℕ, ◌≤◌, Option, List, Ok, Err, ◌∷◌, ◌++◌, length, map, refl, sym, ap, ◌∙◌, subst, arith}
+use Rattle.std.proofs.Common.{◌≡◌, ◌≢◌, ◌⊎◌, inl, inr, ℕ, ◌≤◌, Option, List, Ok, Err, ◌++◌, codes, length, map, refl, sym, ap, ◌∙◌, subst, arith}
 use Rattle.std.specs.Prelude.{Result, IfErr, IsErrAnd, slice_get}
 use Rattle.std.specs.Option.{option_map, unwrap_or}
 use Rattle.std.proofs.lemmas.Option.{unwrap_or-slice_get, slice_get-map}
@@ -10,13 +10,14 @@ use Rattle.luf_lex.specs.Cut.{IsCut}
 use Rattle.luf_lex.specs.Tokens.{toks_of, spans_of, spellings_of}
 use Rattle.luf_lex.specs.declared.fault.LexWhat.{LexWhat}
 use Rattle.luf_lex.specs.declared.token.Piece.{Piece}
-use Rattle.luf_lex.proofs.OneCut.{one_cut, cut_or_fault, one_fault}
+use Rattle.luf_lex.proofs.OneCut.{one_cut, cut_excludes_fault, one_fault}
 use Rattle.luf_tree.specs.declared.tree.Chunk.{Chunk}
 use Rattle.luf_tree.specs.Grammar.{IsChunk}
-use Rattle.luf_tree.specs.Level.{depth_of}
-use Rattle.luf_work.specs.Minified.{hash_text, IsMinified, IsAccepted}
-use Rattle.luf_work.specs.Refusals.{start_of, IsLexicalAt, HasNoTreeAt, IsRefused, TellsNoTree}
-use Rattle.luf_work.specs.Text.{IsJoined, nothing, alone, apart, spaced}
+use Rattle.luf_work.specs.Limits.{source_limit}
+use Rattle.luf_work.specs.Minify.{IsMinified, IsMinifyAccepted, HasLargeText, IsMinifyRefusal}
+use Rattle.luf_work.specs.Refusals.{start_of, IsLexicalAt, HasNoTreeAt, IsSourceRefusal, IsSameRefusal, AnswersRefusal}
+use Rattle.luf_work.specs.Source.{IsSource, IsAccepted}
+use Rattle.luf_work.specs.Text.{IsJoined, nothing, alone, apart, spaced, hash_text}
 use Rattle.luf_work.specs.declared.refusal.Refusal.{Refusal}
 use Rattle.luf_work.specs.declared.refusal.Refusal.TheVariants.{TooLarge, Lexical, Syntax, TooDeep, ResultTooLarge, Memory}
 
@@ -28,8 +29,8 @@ start_is source pieces token o e =
     ∙ unwrap_or-slice_get (map (λ (s : Span). s.from) (spans_of pieces)) token (length source)
 
 -- the minified text of a source, by its parts
-pub minified_of : (source : List ℕ) (pieces : List Piece) (chunk : Chunk) (tokens : List ℕ) → IsCut source pieces → IsChunk (toks_of pieces) chunk → depth_of chunk ≤ 200 → IsJoined (spellings_of source pieces) tokens → IsMinified source (hash_text source pieces ++ tokens)
-minified_of source pieces chunk tokens cut tree levels joined = record { pieces = pieces; chunk = chunk; is = record { cut = cut; tree = tree; levels = levels }; tokens = tokens; joined = joined; text_is = refl }
+pub minified_of : (source : List ℕ) (pieces : List Piece) (chunk : Chunk) (tokens : List ℕ) → IsSource source pieces chunk → IsJoined (spellings_of source pieces) tokens → IsMinified source (hash_text source pieces ++ tokens)
+minified_of source pieces chunk tokens is joined = record { pieces = pieces; chunk = chunk; is = is; tokens = tokens; joined = joined; text_is = refl }
 
 -- spellings are joined in one way
 one_joined : {spellings : List (List ℕ)} {text other : List ℕ} → IsJoined spellings text → IsJoined spellings other → text ≡ other
@@ -38,7 +39,7 @@ one_joined alone alone = refl
 one_joined (apart {a} s j) (apart s' k) = ap (λ t. a ++ t) (one_joined j k)
 one_joined (apart s j) (spaced n k) = absurd (n s)
 one_joined (spaced n j) (apart s k) = absurd (n s)
-one_joined (spaced {a} n j) (spaced n' k) = ap (λ t. a ++ 32 ∷ t) (one_joined j k)
+one_joined (spaced {a} n j) (spaced n' k) = ap (λ t. a ++ (codes " " ++ t)) (one_joined j k)
 
 -- a source has one minified text at most
 pub one_text : (source text other : List ℕ) → IsMinified source text → IsMinified source other → text ≡ other
@@ -47,34 +48,25 @@ one_text source text other h g =
     let joined : IsJoined (spellings_of source g.pieces) h.tokens = subst (λ (ps : List Piece). IsJoined (spellings_of source ps) h.tokens) same h.joined in
     h.text_is ∙ ap (λ (ps : List Piece). hash_text source ps ++ h.tokens) same ∙ ap (λ t. hash_text source g.pieces ++ t) (one_joined joined g.joined) ∙ sym g.text_is
 
--- and none where its tokens have no tree
-no_tree_no_text : (source text : List ℕ) (place : Place) → HasNoTreeAt source place → IsMinified source text → ⊥
-no_tree_no_text source text place h m =
-    let same : m.pieces ≡ h.pieces = one_cut source m.pieces h.pieces m.is.cut h.cut in
-    h.none m.chunk (subst (λ (ps : List Piece). IsChunk (toks_of ps) m.chunk) same m.is.tree) m.is.levels
+-- ---- the causes of a refusal by every job
 
--- nor where it has a lexical fault
-fault_no_text : (source text : List ℕ) (place : Place) (what : LexWhat) → IsLexicalAt source place what → IsMinified source text → ⊥
-fault_no_text source text place what h m = cut_or_fault source m.pieces h.at what m.is.cut h.fault
+-- a source with a tree has no lexical fault
+fault_no_source : (source : List ℕ) (pieces : List Piece) (chunk : Chunk) (place : Place) (what : LexWhat) → IsLexicalAt source place what → IsSource source pieces chunk → ⊥
+fault_no_source source pieces chunk place what h is = cut_excludes_fault source pieces h.at what is.cut h.fault
 
--- an accepted source is refused for want of memory alone
-pub accepted_or_refused : (source : List ℕ) (refusal : Refusal) → IsAccepted source → IsRefused source refusal → refusal ≡ Memory
-accepted_or_refused source TooLarge a large = absurd (omega (arith, large, a.within))
-accepted_or_refused source (Lexical place what) a cause = absurd (fault_no_text source a.text place what cause.1 a.minified)
-accepted_or_refused source (Syntax place) a cause = absurd (no_tree_no_text source a.text place cause.1 a.minified)
-accepted_or_refused source (TooDeep place) a cause = absurd (no_tree_no_text source a.text place cause.1 a.minified)
-accepted_or_refused source ResultTooLarge a cause = absurd (omega (arith, cause.1.large, a.fits, ap length (one_text source cause.1.text a.text cause.1.minified a.minified)))
-accepted_or_refused source Memory a any = refl
+-- nor tokens without one
+no_tree_no_source : (source : List ℕ) (pieces : List Piece) (chunk : Chunk) (place : Place) → HasNoTreeAt source place → IsSource source pieces chunk → ⊥
+no_tree_no_source source pieces chunk place h is =
+    let same : pieces ≡ h.pieces = one_cut source pieces h.pieces is.cut h.cut in
+    h.none chunk (subst (λ (ps : List Piece). IsChunk (toks_of ps) chunk) same is.tree) is.levels
 
--- so what is no text of an accepted source is want of memory
-pub answered : (source : List ℕ) (r : Result (Unit {0}) Refusal) → IfErr r (IsRefused source) → IsAccepted source → (r ≡ Ok tt) ⊎ (r ≡ Err Memory)
-answered source (Ok u) cause a = inl refl
-answered source (Err e) cause a = inr (ap Err (accepted_or_refused source e a cause))
-
--- an error that is passed on is the same
-pub passed : (P : Refusal → Type 0) {e : Refusal} (r : Result (Unit {0}) Refusal) → IsErrAnd r (λ x. x ≡ e) → P e → IfErr r P
-passed P (Ok u) is h = cc
-passed P (Err x) is h = subst P (sym is) h
+source_not_refused : (source : List ℕ) (pieces : List Piece) (chunk : Chunk) (refusal : Refusal) → length source ≤ source_limit → IsSource source pieces chunk → IsSourceRefusal source refusal → ⊥
+source_not_refused source pieces chunk TooLarge within is large = omega (arith, large, within)
+source_not_refused source pieces chunk (Lexical place what) within is cause = fault_no_source source pieces chunk place what cause.1 is
+source_not_refused source pieces chunk (Syntax place) within is cause = no_tree_no_source source pieces chunk place cause.1 is
+source_not_refused source pieces chunk (TooDeep place) within is cause = no_tree_no_source source pieces chunk place cause.1 is
+source_not_refused source pieces chunk ResultTooLarge within is cause = cause
+source_not_refused source pieces chunk Memory within is cause = cause
 
 -- a source has one lexical fault at most, at one place
 one_lexical : (source : List ℕ) (place : Place) (what : LexWhat) (place' : Place) (what' : LexWhat) → IsLexicalAt source place what → IsLexicalAt source place' what' → Lexical place what ≡ Lexical place' what'
@@ -84,38 +76,104 @@ one_lexical source place what place' what' h g =
 
 -- and none where it has a cut
 fault_no_tree : (source : List ℕ) (place : Place) (what : LexWhat) (place' : Place) → IsLexicalAt source place what → HasNoTreeAt source place' → ⊥
-fault_no_tree source place what place' h g = cut_or_fault source g.pieces h.at what g.cut h.fault
+fault_no_tree source place what place' h g = cut_excludes_fault source g.pieces h.at what g.cut h.fault
 
 -- two causes of one source are one, or both tell that it has no tree
-pub one_refusal : (source : List ℕ) (refusal other : Refusal) → IsRefused source refusal → IsRefused source other → refusal ≢ Memory → other ≢ Memory → (refusal ≡ other) ⊎ (TellsNoTree refusal × TellsNoTree other)
-one_refusal source Memory other h g m n = absurd (m refl)
-one_refusal source TooLarge TooLarge h g m n = inl refl
-one_refusal source TooLarge (Lexical p w) h g m n = absurd (omega (arith, h, g.0))
-one_refusal source TooLarge (Syntax p) h g m n = absurd (omega (arith, h, g.0))
-one_refusal source TooLarge (TooDeep p) h g m n = absurd (omega (arith, h, g.0))
-one_refusal source TooLarge ResultTooLarge h g m n = absurd (omega (arith, h, g.0))
-one_refusal source TooLarge Memory h g m n = absurd (n refl)
-one_refusal source (Lexical p w) TooLarge h g m n = absurd (omega (arith, g, h.0))
-one_refusal source (Lexical p w) (Lexical q v) h g m n = inl (one_lexical source p w q v h.1 g.1)
-one_refusal source (Lexical p w) (Syntax q) h g m n = absurd (fault_no_tree source p w q h.1 g.1)
-one_refusal source (Lexical p w) (TooDeep q) h g m n = absurd (fault_no_tree source p w q h.1 g.1)
-one_refusal source (Lexical p w) ResultTooLarge h g m n = absurd (fault_no_text source g.1.text p w h.1 g.1.minified)
-one_refusal source (Lexical p w) Memory h g m n = absurd (n refl)
-one_refusal source (Syntax p) TooLarge h g m n = absurd (omega (arith, g, h.0))
-one_refusal source (Syntax p) (Lexical q v) h g m n = absurd (fault_no_tree source q v p g.1 h.1)
-one_refusal source (Syntax p) (Syntax q) h g m n = inr (tt, tt)
-one_refusal source (Syntax p) (TooDeep q) h g m n = inr (tt, tt)
-one_refusal source (Syntax p) ResultTooLarge h g m n = absurd (no_tree_no_text source g.1.text p h.1 g.1.minified)
-one_refusal source (Syntax p) Memory h g m n = absurd (n refl)
-one_refusal source (TooDeep p) TooLarge h g m n = absurd (omega (arith, g, h.0))
-one_refusal source (TooDeep p) (Lexical q v) h g m n = absurd (fault_no_tree source q v p g.1 h.1)
-one_refusal source (TooDeep p) (Syntax q) h g m n = inr (tt, tt)
-one_refusal source (TooDeep p) (TooDeep q) h g m n = inr (tt, tt)
-one_refusal source (TooDeep p) ResultTooLarge h g m n = absurd (no_tree_no_text source g.1.text p h.1 g.1.minified)
-one_refusal source (TooDeep p) Memory h g m n = absurd (n refl)
-one_refusal source ResultTooLarge TooLarge h g m n = absurd (omega (arith, g, h.0))
-one_refusal source ResultTooLarge (Lexical q v) h g m n = absurd (fault_no_text source h.1.text q v g.1 h.1.minified)
-one_refusal source ResultTooLarge (Syntax q) h g m n = absurd (no_tree_no_text source h.1.text q g.1 h.1.minified)
-one_refusal source ResultTooLarge (TooDeep q) h g m n = absurd (no_tree_no_text source h.1.text q g.1 h.1.minified)
-one_refusal source ResultTooLarge ResultTooLarge h g m n = inl refl
-one_refusal source ResultTooLarge Memory h g m n = absurd (n refl)
+one_source_refusal : (source : List ℕ) (refusal other : Refusal) → IsSourceRefusal source refusal → IsSourceRefusal source other → IsSameRefusal refusal other
+one_source_refusal source ResultTooLarge other h g = absurd h
+one_source_refusal source Memory other h g = absurd h
+one_source_refusal source TooLarge TooLarge h g = inl refl
+one_source_refusal source TooLarge (Lexical p w) h g = absurd (omega (arith, h, g.0))
+one_source_refusal source TooLarge (Syntax p) h g = absurd (omega (arith, h, g.0))
+one_source_refusal source TooLarge (TooDeep p) h g = absurd (omega (arith, h, g.0))
+one_source_refusal source TooLarge ResultTooLarge h g = absurd g
+one_source_refusal source TooLarge Memory h g = absurd g
+one_source_refusal source (Lexical p w) TooLarge h g = absurd (omega (arith, g, h.0))
+one_source_refusal source (Lexical p w) (Lexical q v) h g = inl (one_lexical source p w q v h.1 g.1)
+one_source_refusal source (Lexical p w) (Syntax q) h g = absurd (fault_no_tree source p w q h.1 g.1)
+one_source_refusal source (Lexical p w) (TooDeep q) h g = absurd (fault_no_tree source p w q h.1 g.1)
+one_source_refusal source (Lexical p w) ResultTooLarge h g = absurd g
+one_source_refusal source (Lexical p w) Memory h g = absurd g
+one_source_refusal source (Syntax p) TooLarge h g = absurd (omega (arith, g, h.0))
+one_source_refusal source (Syntax p) (Lexical q v) h g = absurd (fault_no_tree source q v p g.1 h.1)
+one_source_refusal source (Syntax p) (Syntax q) h g = inr (tt, tt)
+one_source_refusal source (Syntax p) (TooDeep q) h g = inr (tt, tt)
+one_source_refusal source (Syntax p) ResultTooLarge h g = absurd g
+one_source_refusal source (Syntax p) Memory h g = absurd g
+one_source_refusal source (TooDeep p) TooLarge h g = absurd (omega (arith, g, h.0))
+one_source_refusal source (TooDeep p) (Lexical q v) h g = absurd (fault_no_tree source q v p g.1 h.1)
+one_source_refusal source (TooDeep p) (Syntax q) h g = inr (tt, tt)
+one_source_refusal source (TooDeep p) (TooDeep q) h g = inr (tt, tt)
+one_source_refusal source (TooDeep p) ResultTooLarge h g = absurd g
+one_source_refusal source (TooDeep p) Memory h g = absurd g
+
+-- ---- those of `minify`
+
+-- a cause of every job is one of `minify`
+pub minify_cause : (source : List ℕ) (refusal : Refusal) → IsSourceRefusal source refusal → IsMinifyRefusal source refusal
+minify_cause source ResultTooLarge h = absurd h
+minify_cause source TooLarge h = h
+minify_cause source (Lexical p w) h = h
+minify_cause source (Syntax p) h = h
+minify_cause source (TooDeep p) h = h
+minify_cause source Memory h = h
+
+-- a text that is too large
+abbrev IsLarge : List ℕ → Refusal → Type 0
+IsLarge source refusal = (refusal ≡ ResultTooLarge) × (length source ≤ source_limit) × HasLargeText source
+
+-- and there is no further cause but a text that is too large
+minify_causes : (source : List ℕ) (refusal : Refusal) → IsMinifyRefusal source refusal → IsSourceRefusal source refusal ⊎ IsLarge source refusal
+minify_causes source ResultTooLarge h = inr (refl, h.0, h.1)
+minify_causes source TooLarge h = inl h
+minify_causes source (Lexical p w) h = inl h
+minify_causes source (Syntax p) h = inl h
+minify_causes source (TooDeep p) h = inl h
+minify_causes source Memory h = inl h
+
+large_not_refused : (source : List ℕ) (refusal : Refusal) → length source ≤ source_limit → HasLargeText source → IsSourceRefusal source refusal → ⊥
+large_not_refused source refusal within h = source_not_refused source h.minified.pieces h.minified.chunk refusal within h.minified.is
+
+-- an accepted source has none
+pub accepted_not_refused : (source : List ℕ) (refusal : Refusal) → IsMinifyAccepted source → IsMinifyRefusal source refusal → ⊥
+accepted_not_refused source refusal a h =
+    elim (minify_causes source refusal h) [
+      | inl cause ↦ source_not_refused source a.accepted.pieces a.accepted.chunk refusal a.accepted.within a.accepted.is cause
+      | inr l ↦ omega (arith, l.2.large, a.fits, ap length (one_text source l.2.text a.text l.2.minified a.minified))
+    ]
+
+pub one_refusal : (source : List ℕ) (refusal other : Refusal) → IsMinifyRefusal source refusal → IsMinifyRefusal source other → IsSameRefusal refusal other
+one_refusal source refusal other h g =
+    elim (minify_causes source refusal h) [
+      | inl cause ↦ elim (minify_causes source other g) [ inl second ↦ one_source_refusal source refusal other cause second | inr l ↦ absurd (large_not_refused source refusal l.1 l.2 cause) ]
+      | inr l ↦ elim (minify_causes source other g) [ inl second ↦ absurd (large_not_refused source other l.1 l.2 second) | inr m ↦ inl (l.0 ∙ sym m.0) ]
+    ]
+
+-- ---- what is answered
+
+memory_or_other : (refusal : Refusal) → (refusal ≡ Memory) ⊎ (refusal ≢ Memory)
+memory_or_other Memory = inl refl
+memory_or_other TooLarge = inr (λ e. cc)
+memory_or_other (Lexical p w) = inr (λ e. cc)
+memory_or_other (Syntax p) = inr (λ e. cc)
+memory_or_other (TooDeep p) = inr (λ e. cc)
+memory_or_other ResultTooLarge = inr (λ e. cc)
+
+-- what is no text of an accepted source is want of memory
+pub answered : (source : List ℕ) (r : Result (Unit {0}) Refusal) → IsErrAnd r (λ e. e ≢ Memory → IsMinifyRefusal source e) → IsMinifyAccepted source → (r ≡ Ok tt) ⊎ (r ≡ Err Memory)
+answered source (Ok u) cause a = absurd cause
+answered source (Err e) cause a = elim (memory_or_other e) [ inl memory ↦ inr (ap Err memory) | inr other ↦ absurd (accepted_not_refused source e a (cause other)) ]
+
+-- a refusal that has its cause is the one that is answered, or want of memory is
+pub told : (source : List ℕ) (r : Result (Unit {0}) Refusal) → IsErrAnd r (λ e. e ≢ Memory → IsMinifyRefusal source e) → (refusal : Refusal) → IsMinifyRefusal source refusal → AnswersRefusal r refusal ⊎ (r ≡ Err Memory)
+told source (Ok u) cause refusal h = absurd cause
+told source (Err e) cause refusal h = elim (memory_or_other e) [ inl memory ↦ inr (ap Err memory) | inr other ↦ inl (e, one_refusal source refusal e h (cause other), refl) ]
+
+-- an error that is passed on is the same
+pub passed : (source : List ℕ) {e : Refusal} (r : Result (Unit {0}) Refusal) → IsErrAnd r (λ x. x ≡ e) → (e ≢ Memory → IsSourceRefusal source e) → IsErrAnd r (λ x. x ≢ Memory → IsMinifyRefusal source x)
+passed source (Ok u) is h = absurd is
+passed source (Err x) is h = λ other. minify_cause source x (subst (IsSourceRefusal source) (sym is) (h (λ e. other (is ∙ e))))
+
+pub passed_on : (source : List ℕ) {e : Refusal} (r : Result (Unit {0}) Refusal) → IsErrAnd r (λ x. x ≡ e) → (e ≢ Memory → IsSourceRefusal source e) → IfErr r (λ x. x ≢ Memory → IsMinifyRefusal source x)
+passed_on source (Ok u) is h = cc
+passed_on source (Err x) is h = passed source (Err x) is h

@@ -1,15 +1,18 @@
 -- The text of a source has its tokens.
-use Rattle.std.proofs.Common.{◌≡◌, ℕ, zero, suc, ◌+◌, ◌-◌, ◌<◌, ◌≤◌, inl, inr, Bool, true, false, cond, eqb, List, [], ◌∷◌, ◌++◌, Some, length, length-append, append-nil, append_assoc, take, drop, get_or, refl, sym, ap, ◌∙◌, subst, arith}
+use Rattle.std.proofs.Common.{◌≡◌, ℕ, zero, suc, ◌+◌, ◌-◌, ◌<◌, ◌≤◌, Bool, true, false, cond, eqb, not, ◌&&◌, List, [], ◌∷◌, ◌++◌, Some, length, length-append, append-nil, append_assoc, take, drop, get_or, codes, refl, sym, ap, ◌∙◌, subst, arith}
 use Rattle.std.specs.List.{prefix_len}
 use Rattle.std.specs.Prelude.{slice_range, slice_get, map}
 use Rattle.std.proofs.Math.Seq.{take-append_seam, drop-append_seam, drop-drop}
 use Rattle.std.proofs.lemmas.Bool.{cond-true, cond-false, and_left, false≢true}
 use Rattle.std.proofs.lemmas.Bool.Decides.{nat_tests}
 use Rattle.std.proofs.lemmas.List.{length-map}
-use Rattle.luf_str.specs.Bytes.{is_line_byte}
-use Rattle.luf_lex.specs.Byte.{in_line, begins}
-use Rattle.luf_lex.specs.Spelling.{Spells, IsLineEnd, IsHashLine}
-use Rattle.luf_lex.specs.First.{Group, Quoted, IsFirst, is_tried, group_of}
+use Rattle.luf_byte.specs.Class.{is_line_byte, in_line}
+use Rattle.luf_byte.specs.Front.{begins}
+use Rattle.luf_lex.specs.Spelling.{Spells, IsHashLine}
+use Rattle.luf_byte.specs.LineEnd.{line_end_length}
+use Rattle.luf_lex.specs.First.{IsFirst, is_tried, group_of}
+use Rattle.luf_lex.specs.declared.group.Group.{Group}
+use Rattle.luf_lex.specs.declared.group.Group.TheVariants.{Quoted}
 use Rattle.luf_lex.specs.Cut.{Cuts, IsCut, mark_length, hash_length, head_of, head_end}
 use Rattle.luf_lex.specs.Tokens.{tokens_of, toks_of, spellings_of}
 use Rattle.luf_lex.specs.declared.token.Tok.{Tok}
@@ -22,10 +25,11 @@ use Rattle.luf_lex.proofs.PlainLemmas.{line_end_first}
 use Rattle.luf_tree.specs.declared.tree.Chunk.{Chunk}
 use Rattle.luf_tree.specs.Grammar.{At, IsChunk}
 use Rattle.luf_tree.proofs.TokenLaws.{chunk_no_hash, bracket_no_equal}
-use Rattle.luf_work.specs.Minified.{is_hash_line, hash_text, IsSource, SameTokens}
-use Rattle.luf_work.specs.Text.{IsJoined, nothing, alone, apart, spaced}
+use Rattle.luf_work.specs.Minify.{SameTokens}
+use Rattle.luf_work.specs.Source.{IsSource}
+use Rattle.luf_work.specs.Text.{IsJoined, nothing, alone, apart, spaced, is_hash_line, hash_text}
 use Rattle.luf_guard.proofs.Before.{spelled_some}
-use Rattle.luf_guard.proofs.Spellings.{SpelledAt, spelled_at}
+use Rattle.luf_lex.proofs.PieceSpellings.{SpelledAt, spelled_at}
 use Rattle.luf_guard.proofs.Words.{run_before, begins_some, begins_front}
 use Rattle.luf_work.proofs.FirstByte.{no_line, no_mark, no_hash}
 use Rattle.luf_work.proofs.TokensCut.{Spelled, BracketsStop, TextCut, with_other, text_cut}
@@ -86,14 +90,38 @@ tried_no_hash g _ h = refl
 no_hash_behind : (source : List ℕ) (at : ℕ) (pieces : List Piece) (to : ℕ) → Cuts source at pieces to → hash_text source pieces ≡ []
 no_hash_behind source at [] to cut = refl
 no_hash_behind source at (p ∷ pieces) to cut =
-    ap (λ v. cond v (bytes_of source p ++ 10 ∷ []) [] ++ hash_text source pieces) (tried_no_hash (group_of (drop at source)) p.kind cut.2.tried)
+    ap (λ v. cond v (bytes_of source p ++ codes "\n") [] ++ hash_text source pieces) (tried_no_hash (group_of (drop at source)) p.kind cut.2.tried)
     ∙ no_hash_behind source p.span.to pieces to cut.3
+
+-- nor among the first pieces behind it
+no_hash_first : (source : List ℕ) (at : ℕ) (pieces : List Piece) (to count : ℕ) → Cuts source at pieces to → hash_text source (take count pieces) ≡ []
+no_hash_first source at pieces to zero cut = refl
+no_hash_first source at [] to (suc count) cut = refl
+no_hash_first source at (p ∷ pieces) to (suc count) cut =
+    ap (λ v. cond v (bytes_of source p ++ codes "\n") [] ++ hash_text source (take count pieces)) (tried_no_hash (group_of (drop at source)) p.kind cut.2.tried)
+    ∙ no_hash_first source p.span.to pieces to count cut.3
+
+first_two : (source : List ℕ) (v w : Bool) (m n : ℕ) (rest : List Piece) → ((count : ℕ) → hash_text source (take count rest) ≡ hash_text source rest)
+    → hash_text source (take 2 ((marked v m ++ hashed w m n) ++ rest)) ≡ hash_text source ((marked v m ++ hashed w m n) ++ rest)
+first_two source true true m n rest none = none 2
+first_two source true false m n rest none = ap (λ t. (slice_range source m n ++ codes "\n") ++ t) (none 1)
+first_two source false true m n rest none = none 1
+first_two source false false m n rest none = ap (λ t. (slice_range source m n ++ codes "\n") ++ t) (none 0)
+
+-- so it is the first piece or the second
+pub hash_text_first : (source : List ℕ) (pieces : List Piece) → IsCut source pieces → hash_text source (take 2 pieces) ≡ hash_text source pieces
+hash_text_first source pieces cut =
+    let none = no_hash_behind source (head_end source) cut.rest (length source) cut.cut in
+    ap (λ (ps : List Piece). hash_text source (take 2 ps)) cut.head
+    ∙ first_two source (eqb (mark_length source) 0) (eqb (head_end source) (mark_length source)) (mark_length source) (head_end source) cut.rest
+    (λ count. no_hash_first source (head_end source) cut.rest (length source) count cut.cut ∙ sym none)
+    ∙ ap (hash_text source) (sym cut.head)
 
 hash_none : (source : List ℕ) (v : Bool) (m n : ℕ) (rest : List Piece) → hash_text source ((marked v m ++ hashed true m n) ++ rest) ≡ hash_text source rest
 hash_none source true m n rest = refl
 hash_none source false m n rest = refl
 
-hash_there : (source : List ℕ) (v : Bool) (m n : ℕ) (rest : List Piece) → hash_text source ((marked v m ++ hashed false m n) ++ rest) ≡ (slice_range source m n ++ 10 ∷ []) ++ hash_text source rest
+hash_there : (source : List ℕ) (v : Bool) (m n : ℕ) (rest : List Piece) → hash_text source ((marked v m ++ hashed false m n) ++ rest) ≡ (slice_range source m n ++ codes "\n") ++ hash_text source rest
 hash_there source true m n rest = refl
 hash_there source false m n rest = refl
 
@@ -105,13 +133,13 @@ hash_text_none source pieces cut none =
     ∙ hash_none source (eqb (mark_length source) 0) (mark_length source) (head_end source) cut.rest
     ∙ no_hash_behind source (head_end source) cut.rest (length source) cut.cut
 
-hash_text_there : (source : List ℕ) (pieces : List Piece) → IsCut source pieces → eqb (head_end source) (mark_length source) ≡ false → hash_text source pieces ≡ slice_range source (mark_length source) (head_end source) ++ 10 ∷ []
+hash_text_there : (source : List ℕ) (pieces : List Piece) → IsCut source pieces → eqb (head_end source) (mark_length source) ≡ false → hash_text source pieces ≡ slice_range source (mark_length source) (head_end source) ++ codes "\n"
 hash_text_there source pieces cut some =
     ap (hash_text source) cut.head
     ∙ ap (λ w. hash_text source ((marked (eqb (mark_length source) 0) (mark_length source) ++ hashed w (mark_length source) (head_end source)) ++ cut.rest)) some
     ∙ hash_there source (eqb (mark_length source) 0) (mark_length source) (head_end source) cut.rest
-    ∙ ap (λ t. (slice_range source (mark_length source) (head_end source) ++ 10 ∷ []) ++ t) (no_hash_behind source (head_end source) cut.rest (length source) cut.cut)
-    ∙ append-nil (slice_range source (mark_length source) (head_end source) ++ 10 ∷ [])
+    ∙ ap (λ t. (slice_range source (mark_length source) (head_end source) ++ codes "\n") ++ t) (no_hash_behind source (head_end source) cut.rest (length source) cut.cut)
+    ∙ append-nil (slice_range source (mark_length source) (head_end source) ++ codes "\n")
 
 -- what the head counts as a `#` line is one
 hash_front : (text : List ℕ) (v : Bool) → begins (λ b. eqb b 35) text ≡ v → 0 < cond v (prefix_len in_line text) 0 → IsHashLine (take (cond v (prefix_len in_line text) 0) text)
@@ -135,7 +163,7 @@ joined_apart p (t ∷ toks) (alone {a}) h none = none t a refl h.0
 joined_apart p [] (apart s j) h none = absurd h
 joined_apart p (t ∷ toks) (apart {a} {text} s j) h none = begins_front p a text (spelled_some t a h.0) ∙ none t a refl h.0
 joined_apart p [] (spaced s j) h none = absurd h
-joined_apart p (t ∷ toks) (spaced {a} {text} s j) h none = begins_front p a (32 ∷ text) (spelled_some t a h.0) ∙ none t a refl h.0
+joined_apart p (t ∷ toks) (spaced {a} {text} s j) h none = begins_front p a (codes " " ++ text) (spelled_some t a h.0) ∙ none t a refl h.0
 
 no_mark_length : (text : List ℕ) → begins (λ b. eqb 239 b) text ≡ false → mark_length text ≡ 0
 no_mark_length [] h = refl
@@ -176,31 +204,24 @@ not_empty a h =
     grind (arith, nat_tests)
 
 -- the `#` line of a text that begins with one
-hash_text_front : (a x : List ℕ) (pieces : List Piece) → IsHashLine a → IsCut (a ++ 10 ∷ x) pieces → hash_text (a ++ 10 ∷ x) pieces ≡ a ++ 10 ∷ []
+hash_text_front : (a x : List ℕ) (pieces : List Piece) → IsHashLine a → IsCut (a ++ 10 ∷ x) pieces → hash_text (a ++ 10 ∷ x) pieces ≡ a ++ codes "\n"
 hash_text_front a x pieces h cut =
     let text : List ℕ = a ++ 10 ∷ x in
     let mark : mark_length text ≡ 0 = hash_mark a x h in
     let end : head_end text ≡ length a = hash_end a x h in
     let size : head_end text - 0 ≡ length a = omega (arith, end) in
     hash_text_there text pieces cut (ap (λ i. eqb i (mark_length text)) end ∙ ap (λ i. eqb (length a) i) mark ∙ not_empty a h.first)
-    ∙ ap (λ i. slice_range text i (head_end text) ++ 10 ∷ []) mark
-    ∙ ap (λ i. take i text ++ 10 ∷ []) size
-    ∙ ap (λ t. t ++ 10 ∷ []) (take-append_seam a (10 ∷ x))
+    ∙ ap (λ i. slice_range text i (head_end text) ++ codes "\n") mark
+    ∙ ap (λ i. take i text ++ codes "\n") size
+    ∙ ap (λ t. t ++ codes "\n") (take-append_seam a (10 ∷ x))
 
 -- a line feed before what begins with no byte of a line end is a piece
-feed_longest : (x : List ℕ) (m : ℕ) → begins is_line_byte x ≡ false → 1 < m → m ≤ length (10 ∷ x) → IsLineEnd (take m (10 ∷ x)) → ⊥
-feed_longest x zero stop more within is = omega (arith, more)
-feed_longest x (suc zero) stop more within is = omega (arith, more)
-feed_longest [] (suc (suc m)) stop more within is = omega (arith, within)
-feed_longest (c ∷ x) (suc (suc m)) stop more within (inl e) = omega (arith, ap length e)
-feed_longest (c ∷ x) (suc (suc m)) stop more within (inr (inl e)) = omega (arith, ap length e)
-feed_longest (c ∷ x) (suc (suc m)) stop more within (inr (inr (inl e))) =
-    let last : c ≡ 13 = ap (λ (l : List ℕ). get_or l 1 0) e in
-    false≢true (sym stop ∙ ap is_line_byte last)
-feed_longest (c ∷ x) (suc (suc m)) stop more within (inr (inr (inr e))) = omega (arith, ap (λ (l : List ℕ). get_or l 0 0) e)
+feed_length : (x : List ℕ) → begins is_line_byte x ≡ false → 1 ≡ line_end_length (10 ∷ x)
+feed_length [] stop = refl
+feed_length (c ∷ x) stop = sym (ap (λ v. cond (v && not (eqb 10 c)) 2 1) stop)
 
 feed_first : (x : List ℕ) → begins is_line_byte x ≡ false → IsFirst (10 ∷ x) LineEnd 1
-feed_first x stop = line_end_first (10 ∷ x) 1 refl refl (omega arith) (inl refl) (λ m more within is. feed_longest x m stop more within is)
+feed_first x stop = line_end_first (10 ∷ x) 1 refl refl (feed_length x stop)
 
 -- ---- the tokens of the text
 
@@ -256,13 +277,13 @@ same_tokens source pieces chunk tokens is joined = by_head (eqb (head_end source
     by_head false some =
         let front : List ℕ = slice_range source (mark_length source) (head_end source) in
         let all : List ℕ = front ++ 10 ∷ tokens in
-        let text : hash_text source pieces ++ tokens ≡ all = ap (λ h. h ++ tokens) (hash_text_there source pieces is.cut some) ∙ append_assoc front (10 ∷ []) tokens in
+        let text : hash_text source pieces ++ tokens ≡ all = ap (λ h. h ++ tokens) (hash_text_there source pieces is.cut some) ∙ append_assoc front (codes "\n") tokens in
         let behind : drop (length front) all ≡ 10 ∷ tokens = drop-append_seam front (10 ∷ tokens) in
         let line_in : IsHashLine front = hash_line_in source some in
         let end : head_end all ≡ length front = hash_end front tokens line_in in
         subst (λ t. SameTokens source t) (sym text) (whole source all pieces chunk is
         (subst (λ i. TextCut all i (toks_of pieces) (spellings_of source pieces)) (sym end)
-        (with_other all (length front) LineEnd (10 ∷ []) tokens (toks_of pieces) (spellings_of source pieces) refl refl behind (feed_first tokens line)
+        (with_other all (length front) LineEnd (codes "\n") tokens (toks_of pieces) (spellings_of source pieces) refl refl behind (feed_first tokens line)
         (text_cut all (length front + 1) (toks_of pieces) joined spelled brackets (omega (arith, length-append front (10 ∷ tokens)))
         (sym (drop-drop 1 (length front) all) ∙ ap (drop 1) behind))))
         (λ others cut. hash_text_front front tokens others line_in cut ∙ sym (hash_text_there source pieces is.cut some)))

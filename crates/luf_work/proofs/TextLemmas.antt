@@ -1,17 +1,17 @@
 -- The text of tokens, token by token.
-use Rattle.std.proofs.Common.{◌≡◌, ℕ, zero, suc, ◌+◌, ◌<◌, ◌≤◌, Option, List, [], ◌∷◌, ◌++◌, Some, None, Bool, true, false, eqb, length, length-append, take, append-nil, append_assoc, get_or, Bor, IfSome, refl, sym, ap, ◌∙◌, subst, arith}
+use Rattle.std.proofs.Common.{◌≡◌, ℕ, zero, suc, ◌+◌, ◌<◌, ◌≤◌, Option, List, [], ◌∷◌, ◌++◌, Some, None, codes, Bool, true, false, eqb, length, length-append, take, append-nil, append_assoc, get_or, Bor, IfSome, refl, sym, ap, ◌∙◌, subst, arith}
 use Rattle.std.specs.Prelude.{slice_get}
 use Rattle.std.specs.Option.{option_copied}
-use Rattle.std.proofs.lemmas.List.{take_more, take-take}
+use Rattle.std.proofs.lemmas.List.{take_more, take-take, length-take, get_or-take}
 use Rattle.std.proofs.Math.Seq.{take-append_seam}
 use Rattle.std.proofs.lemmas.Option.{slice_get_within, get_or_from_slice_get, slice_get-get_or}
 use Rattle.luf_lex.specs.Cut.{Cuts, IsCut, mark_length, head_of, head_end}
 use Rattle.luf_lex.specs.Tokens.{toks_of, spellings_of}
 use Rattle.luf_lex.specs.declared.token.Kind.TheVariants.{HashLine, Mark}
 use Rattle.luf_lex.specs.declared.token.Piece.{Piece}
-use Rattle.luf_guard.specs.Space.{IsSpelling}
+use Rattle.luf_guard.specs.Space.{IsTokenSpelling}
 use Rattle.luf_guard.proofs.Spellings.{spelling_at}
-use Rattle.luf_work.specs.Next.{IsNext, first, next_apart, next_spaced}
+use Rattle.luf_work.specs.inner.Next.{IsNext, first, next_apart, next_spaced}
 use Rattle.luf_work.specs.Text.{IsJoined, nothing, alone, apart, spaced}
 use Rattle.luf_work.proofs.TextAgain.{length_spellings, marked, hashed}
 
@@ -37,7 +37,7 @@ joined_push b more alone next = alone_push next
 joined_push b more (apart {a} {b = c} {text} {rest} s j) next =
     subst (IsJoined (a ∷ c ∷ (rest ++ b ∷ []))) (sym (append_assoc a text more)) (apart s (joined_push b more j next))
 joined_push b more (spaced {a} {b = c} {text} {rest} n j) next =
-    subst (IsJoined (a ∷ c ∷ (rest ++ b ∷ []))) (sym (append_assoc a (32 ∷ text) more)) (spaced n (joined_push b more j next))
+    subst (IsJoined (a ∷ c ∷ (rest ++ b ∷ []))) (sym (append_assoc a (codes " " ++ text) more)) (spaced n (joined_push b more j next))
 
 -- the tokens up to one, with it
 pub take_token : {X : Type 0} (tokens : List X) (n : ℕ) (b : X) → slice_get tokens n ≡ Some b → take (n + 1) tokens ≡ take n tokens ++ b ∷ []
@@ -78,12 +78,12 @@ in_front (y ∷ xs) (suc n) zero x found = found
 in_front (y ∷ xs) (suc n) (suc m) x found = in_front xs n m x found
 
 -- the last of the tokens, if there is one, is the spelling of a token
-last_spelled : (tokens : List (List ℕ)) → ((n : ℕ) (a : List ℕ) → slice_get tokens n ≡ Some a → IsSpelling a) → (a : List ℕ) → last_of tokens ≡ Some a → IsSpelling a
+last_spelled : (tokens : List (List ℕ)) → ((n : ℕ) (a : List ℕ) → slice_get tokens n ≡ Some a → IsTokenSpelling a) → (a : List ℕ) → last_of tokens ≡ Some a → IsTokenSpelling a
 last_spelled [] each a found = cc
 last_spelled (b ∷ []) each a found = each 0 a found
 last_spelled (b ∷ c ∷ rest) each a found = last_spelled (c ∷ rest) (λ n. each (suc n)) a found
 
-pub before_spelled : (source : List ℕ) (pieces : List Piece) (n : ℕ) (old now : List ℕ) (before : Option (Bor (List ℕ))) → IsCut source pieces → Written source pieces n old now (option_copied before) → IfSome before (λ a. IsSpelling a.now)
+pub before_spelled : (source : List ℕ) (pieces : List Piece) (n : ℕ) (old now : List ℕ) (before : Option (Bor (List ℕ))) → IsCut source pieces → Written source pieces n old now (option_copied before) → IfSome before (λ a. IsTokenSpelling a.now)
 before_spelled source pieces n old now None cut w = tt
 before_spelled source pieces n old now (Some a) cut w =
     last_spelled (take n (spellings_of source pieces)) (λ m b found. spelling_at source pieces cut m b (in_front (spellings_of source pieces) n m b found)) a.now (sym w.last)
@@ -121,10 +121,16 @@ with_head end m h false false rest none before inside later n at =
     with_front end (record { kind = Mark; span = record { from = 0; to = m } }) none (record { kind = HashLine; span = record { from = m; to = h } } ∷ rest) n (omega arith, omega (arith, before, inside))
     (λ k. with_front end (record { kind = HashLine; span = record { from = m; to = h } }) none rest k (before, inside) later) at
 
-pub piece_within : (source : List ℕ) (pieces : List Piece) → IsCut source pieces → (n : ℕ) (none : Piece) → n < length pieces → EndsBy (length source) (get_or pieces n none)
+piece_within : (source : List ℕ) (pieces : List Piece) → IsCut source pieces → (n : ℕ) (none : Piece) → n < length pieces → EndsBy (length source) (get_or pieces n none)
 piece_within source pieces cut n none inside =
     let all : pieces ≡ head_of source ++ cut.rest = cut.head in
     subst (λ (ps : List Piece). EndsBy (length source) (get_or ps n none)) (sym all)
     (with_head (length source) (mark_length source) (head_end source) (eqb (mark_length source) 0) (eqb (head_end source) (mark_length source)) cut.rest none (omega arith)
     (order source (head_end source) cut.rest (length source) cut.cut)
     (λ k at. rest_within source (head_end source) cut.rest (length source) cut.cut k none at) n (subst (λ (ps : List Piece). n < length ps) all inside))
+
+-- and so do the first two
+pub first_within : (source : List ℕ) (pieces : List Piece) → IsCut source pieces → (front : List Piece) → front ≡ take 2 pieces → (n : ℕ) (none : Piece) → n < length front → EndsBy (length source) (get_or front n none)
+first_within source pieces cut front is n none inside =
+    let within : (n < 2) × (n < length pieces) = (omega (arith, ap length is, length-take 2 pieces, inside), omega (arith, ap length is, length-take 2 pieces, inside)) in
+    subst (λ (p : Piece). EndsBy (length source) p) (sym (ap (λ (ps : List Piece). get_or ps n none) is ∙ get_or-take 2 pieces n none within.0)) (piece_within source pieces cut n none within.1)

@@ -5,7 +5,8 @@ use Rattle.std.specs.Prelude.{slice_range, slice_get, map}
 use Rattle.std.specs.Option.{option_to_list}
 use Rattle.std.proofs.Math.Seq.{take-append_seam, drop-append_seam, drop-drop}
 use Rattle.std.proofs.lemmas.Bool.{cond-false}
-use Rattle.luf_lex.specs.Byte.{is_blank, begins}
+use Rattle.luf_byte.specs.Class.{is_blank}
+use Rattle.luf_byte.specs.Front.{begins}
 use Rattle.luf_lex.specs.Spelling.{Spells}
 use Rattle.luf_lex.specs.First.{IsFirst}
 use Rattle.luf_lex.specs.Cut.{Cuts}

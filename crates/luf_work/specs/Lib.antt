@@ -1,4 +1,6 @@
-pub mod Minified
-pub mod Next
+pub mod inner
+pub mod Limits
+pub mod Minify
 pub mod Refusals
+pub mod Source
 pub mod Text

@@ -1,5 +1,5 @@
--- Why a source is refused. Our own rules.
-use Rattle.std.specs.Prelude.{◌≡◌, ℕ, ◌<◌, ◌≤◌, List, length, map, slice_index_or}
+-- Why a source is refused by every job, in the order in which the causes are looked for. Our own rules.
+use Rattle.std.specs.Prelude.{◌≡◌, ℕ, ◌<◌, ◌≤◌, ◌⊎◌, List, length, map, slice_index_or, Result, Err}
 use Rattle.luf_text.specs.Place.{place_in}
 use Rattle.luf_text.specs.declared.place.Place.{Place}
 use Rattle.luf_lex.specs.Cut.{IsCut, IsLexFault}
@@ -7,7 +7,7 @@ use Rattle.luf_lex.specs.Tokens.{toks_of, spans_of}
 use Rattle.luf_lex.specs.declared.fault.LexWhat.{LexWhat}
 use Rattle.luf_lex.specs.declared.token.Piece.{Piece}
 use Rattle.luf_parse.specs.Cause.{HasNoTree}
-use Rattle.luf_work.specs.Minified.{IsMinified}
+use Rattle.luf_work.specs.Limits.{source_limit}
 use Rattle.luf_work.specs.declared.refusal.Refusal.{Refusal}
 use Rattle.luf_work.specs.declared.refusal.Refusal.TheVariants.{TooLarge, Lexical, Syntax, TooDeep, ResultTooLarge, Memory}
 
@@ -31,23 +31,27 @@ pub record HasNoTreeAt (source : List ℕ) (place : Place) : Type 0 where
   pub within : token ≤ length (toks_of pieces)
   pub place_is : place ≡ place_in source (start_of source pieces token)
 
--- a source whose minified text has more bytes than the limit
-pub record HasLargeText (source : List ℕ) : Type 0 where
-  pub text : List ℕ
-  pub minified : IsMinified source text
-  pub large : 4194304 < length text
+-- The cause of a refusal by every job. The limit of the source is looked at first. A text that is too large is the
+-- cause of single jobs, and want of memory has no cause in the source.
+abbrev pub IsSourceRefusal : List ℕ → Refusal → Type 0
+IsSourceRefusal source TooLarge = source_limit < length source
+IsSourceRefusal source (Lexical place what) = length source ≤ source_limit × IsLexicalAt source place what
+IsSourceRefusal source (Syntax place) = length source ≤ source_limit × HasNoTreeAt source place
+IsSourceRefusal source (TooDeep place) = length source ≤ source_limit × HasNoTreeAt source place
+IsSourceRefusal source ResultTooLarge = ⊥
+IsSourceRefusal source Memory = ⊥
 
--- the causes that tell of tokens without a tree of at most 200 levels
+-- the refusals that tell of tokens without a tree of at most 200 levels
 abbrev pub TellsNoTree : Refusal → Type 0
 TellsNoTree (Syntax place) = Unit {0}
 TellsNoTree (TooDeep place) = Unit {0}
 TellsNoTree _ = ⊥
 
--- The cause of a refusal. The limit of the source is looked at first.
-abbrev pub IsRefused : List ℕ → Refusal → Type 0
-IsRefused source TooLarge = 4194304 < length source
-IsRefused source (Lexical place what) = length source ≤ 4194304 × IsLexicalAt source place what
-IsRefused source (Syntax place) = length source ≤ 4194304 × HasNoTreeAt source place
-IsRefused source (TooDeep place) = length source ≤ 4194304 × HasNoTreeAt source place
-IsRefused source ResultTooLarge = length source ≤ 4194304 × HasLargeText source
-IsRefused source Memory = Unit {0}
+-- The one looseness of refusals: tokens that have no such tree may be told by either word and at any token. All
+-- other refusals are the same only where they are equal.
+abbrev pub IsSameRefusal : Refusal → Refusal → Type 0
+IsSameRefusal refusal other = (refusal ≡ other) ⊎ (TellsNoTree refusal × TellsNoTree other)
+
+-- a job answers a refusal
+abbrev pub AnswersRefusal : Result (Unit {0}) Refusal → Refusal → Type 0
+AnswersRefusal result refusal = (answered : Refusal) × IsSameRefusal refusal answered × (result ≡ Err answered)

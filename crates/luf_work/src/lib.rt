@@ -2,12 +2,12 @@
 #![tactic(auto)]
 
 mod laws;
+mod limits;
 mod minify;
 mod refusal;
-#[cfg(test)]
-mod tests;
 mod text;
 
-pub use laws::{accepted_or_refused, one_refusal, one_text};
+pub use laws::{accepted_not_refused, one_refusal, one_text};
+pub use limits::{SOURCE_LIMIT, TEXT_LIMIT};
 pub use minify::minify_bytes;
 pub use refusal::Refusal;

@@ -1,16 +1,17 @@
 // `minify`: the tokens of a source with the fewest spaces.
-ghost use Rattle.std.specs.Prelude.{◌≡◌, ◌<◌, ◌≤◌, ◌^◌, ◌↔◌, ◌⊎◌, ◌++◌, ℕ, List, length, take, Ok, Err, IfOk, IfErr, OnOk, OnErr, IsErrOf};
+ghost use Rattle.std.specs.Prelude.{◌≡◌, ◌≢◌, ◌<◌, ◌≤◌, ◌↔◌, ◌⊎◌, ◌++◌, ℕ, List, length, take, Ok, Err, IfOk, IfErr, OnOk, OnErr, IsErrOf};
 ghost use Rattle.luf_text.specs.Place.{place_in};
 ghost use Rattle.luf_lex.specs.Cut.{IsCut};
-ghost use Rattle.luf_lex.specs.Tokens.{toks_of, spellings_of};
-ghost use Rattle.luf_tree.specs.Grammar.{IsChunk};
-ghost use Rattle.luf_tree.specs.Level.{depth_of};
-ghost use Rattle.luf_work.specs.Minified.{hash_text, IsAccepted, IsMinified, SameTokens};
-ghost use Rattle.luf_work.specs.Refusals.{start_of, IsRefused};
-ghost use Rattle.luf_work.specs.Text.{IsJoined};
+ghost use Rattle.luf_lex.specs.Tokens.{spellings_of};
+ghost use Rattle.luf_work.specs.Limits.{source_limit, text_limit};
+ghost use Rattle.luf_work.specs.Minify.{IsMinified, IsMinifyAccepted, IsMinifyRefusal, SameTokens};
+ghost use Rattle.luf_work.specs.Refusals.{start_of, IsSourceRefusal, AnswersRefusal};
+ghost use Rattle.luf_work.specs.Source.{IsSource};
+ghost use Rattle.luf_work.specs.Text.{IsJoined, hash_text};
+ghost use Rattle.luf_work.specs.declared.refusal.Refusal.{Refusal as Cause};
 
-use crate::Refusal;
 use crate::text::{write_hash_line, write_tokens};
+use crate::{Refusal, SOURCE_LIMIT, TEXT_LIMIT};
 use luf_lex::{Cut, LexErr, cut};
 use luf_memory::Memory;
 use luf_parse::{ParseErr, parse};
@@ -18,16 +19,13 @@ use luf_text::{Place, place_of};
 use luf_tree::Chunk;
 use std::alloc::Global;
 
-/// The most bytes that a source may have, and a text.
-const MOST: usize = 4194304;
-
-/// Appends the minified text of a source. An accepted source has `Ok` or `Memory`, and no other source has `Ok`. An
-/// error leaves `into` as it was. `one_text` says that a source has at most one text.
+/// Appends the minified text of a source. A source that `minify` accepts has `Ok` or `Memory`, and no other has `Ok`.
+/// An error leaves `into` as it was. `one_text` says that a source has at most one text.
 ///
 /// # Errors
 ///
-/// `one_refusal` and `accepted_or_refused` say that no two of the causes below hold of one source, so each word but
-/// `Memory` is answered exactly where its cause holds, if memory is found:
+/// Each but `Memory` comes exactly where its cause holds, if memory is found. `one_refusal` says that no two of these
+/// causes hold of one source, and `accepted_not_refused` that none holds of a source that is accepted.
 ///
 /// - `TooLarge`: the source has more than 4,194,304 bytes. Nothing else is looked at, and `Memory` is not answered.
 /// - `Lexical`: the source has no cut. Its first fault is told, by place and kind.
@@ -36,15 +34,16 @@ const MOST: usize = 4194304;
 /// - `ResultTooLarge`: the source has a minified text, which has more than 4,194,304 bytes.
 /// - `Memory`: no memory was found. It alone has no cause in the source.
 pub fn minify_bytes(alloc: Global, src: &[u8], into: &mut Vec<u8>) -> Result<(), Refusal>
-    ensures accepted { OnOk result (IsAccepted src.now) }
-    ensures ok { OnOk result ((text : List ℕ) × IsMinified src.now text × SameTokens src.now text × (length text ≤ 4194304) × (into.new.items ≡ into.old.items ++ text)) }
-    ensures complete { IsAccepted src.now → (result ≡ Ok tt) ⊎ (result ≡ Err Refusal.Memory) }
+    ensures accepted { OnOk result (IsMinifyAccepted src.now) }
+    ensures ok { OnOk result ((text : List ℕ) × IsMinified src.now text × SameTokens src.now text × (length text ≤ text_limit) × (into.new.items ≡ into.old.items ++ text)) }
+    ensures complete { IsMinifyAccepted src.now → (result ≡ Ok tt) ⊎ (result ≡ Err Refusal.Memory) }
 
-    ensures refused { IfErr result (IsRefused src.now) }
-    ensures too_large { IsErrOf result Refusal.TooLarge ↔ (4194304 < length src.now) }
+    ensures refused { IfErr result (λ refusal. refusal ≢ Refusal.Memory → IsMinifyRefusal src.now refusal) }
+    ensures exact { (refusal : Cause) → IsMinifyRefusal src.now refusal → AnswersRefusal result refusal ⊎ (result ≡ Err Refusal.Memory) }
+    ensures too_large { IsErrOf result Refusal.TooLarge ↔ (source_limit < length src.now) }
     ensures err { OnErr result (into.new.items ≡ into.old.items) }
 {
-    if src.len() > MOST {
+    if src.len() > SOURCE_LIMIT {
         return Err(Refusal::TooLarge);
     }
     let pieces = pieces_of(alloc, src)?;
@@ -54,7 +53,7 @@ pub fn minify_bytes(alloc: Global, src: &[u8], into: &mut Vec<u8>) -> Result<(),
         into.truncate(len);
         return Err(Refusal::from(e));
     }
-    if into.len() - len > MOST {
+    if into.len() - len > TEXT_LIMIT {
         into.truncate(len);
         return Err(Refusal::ResultTooLarge);
     }
@@ -63,9 +62,9 @@ pub fn minify_bytes(alloc: Global, src: &[u8], into: &mut Vec<u8>) -> Result<(),
 
 /// The pieces of a source, or the place of its lexical fault.
 fn pieces_of(alloc: Global, src: &[u8]) -> Result<Cut, Refusal>
-    requires { length src.now ≤ 4194304 }
+    requires { length src.now ≤ source_limit }
     ensures ok { IfOk result (λ pieces. IsCut src.now pieces) }
-    ensures refused { IfErr result (IsRefused src.now) }
+    ensures refused { IfErr result (λ refusal. refusal ≢ Refusal.Memory → IsSourceRefusal src.now refusal) }
     ensures within { ¬ IsErrOf result Refusal.TooLarge }
 {
     match cut(alloc, src) {
@@ -77,11 +76,10 @@ fn pieces_of(alloc: Global, src: &[u8]) -> Result<Cut, Refusal>
 
 /// The tree of a source's tokens, or the place of one of them or of the end, where there is none.
 fn tree_of(alloc: Global, src: &[u8], pieces: &Cut) -> Result<Chunk, Refusal>
-    requires within { length src.now ≤ 4194304 }
+    requires within { length src.now ≤ source_limit }
     requires cut { IsCut src.now pieces.now }
-    ensures tree { IfOk result (λ chunk. IsChunk (toks_of pieces.now) chunk) }
-    ensures levels { IfOk result (λ chunk. depth_of chunk ≤ 200) }
-    ensures refused { IfErr result (IsRefused src.now) }
+    ensures ok { IfOk result (λ chunk. IsSource src.now pieces.now chunk) }
+    ensures refused { IfErr result (λ refusal. refusal ≢ Refusal.Memory → IsSourceRefusal src.now refusal) }
     ensures within { ¬ IsErrOf result Refusal.TooLarge }
 {
     match parse(alloc, pieces) {
@@ -96,7 +94,7 @@ fn tree_of(alloc: Global, src: &[u8], pieces: &Cut) -> Result<Chunk, Refusal>
 
 /// The place of a token, or of the end of the source where there are not so many.
 fn place_of_token(src: &[u8], pieces: &Cut, token: u32) -> Place
-    requires within { length src.now ≤ 4194304 }
+    requires within { length src.now ≤ source_limit }
     requires cut { IsCut src.now pieces.now }
     ensures { result ≡ place_in src.now (start_of src.now pieces.now token) }
 {

@@ -3,10 +3,9 @@ ghost use Rattle.std.specs.Prelude.{◌≡◌, ◌≤◌, ◌++◌, ℕ, List, l
 ghost use Rattle.std.specs.Option.{option_copied};
 ghost use Rattle.luf_lex.specs.Cut.{IsCut};
 ghost use Rattle.luf_lex.specs.Tokens.{spellings_of};
-ghost use Rattle.luf_work.specs.Minified.{hash_line, hash_text};
-ghost use Rattle.luf_guard.specs.Space.{IsSpelling};
-ghost use Rattle.luf_work.specs.Next.{IsNext};
-ghost use Rattle.luf_work.specs.Text.{IsJoined};
+ghost use Rattle.luf_guard.specs.Space.{IsTokenSpelling};
+ghost use Rattle.luf_work.specs.Text.{IsJoined, hash_line, hash_text};
+ghost use Rattle.luf_work.specs.inner.Next.{IsNext};
 
 use luf_guard::needs_space;
 use luf_lex::{Cut, Kind, Piece};
@@ -14,8 +13,8 @@ use luf_memory::Memory;
 
 /// Appends a token, behind a space where the one before needs it.
 fn write_token(before: Option<&[u8]>, spelling: &[u8], into: &mut Vec<u8>) -> Result<(), Memory>
-    requires left { IfSome before (λ a. IsSpelling a.now) }
-    requires right { IsSpelling spelling.now }
+    requires left { IfSome before (λ a. IsTokenSpelling a.now) }
+    requires right { IsTokenSpelling spelling.now }
     ensures ok { OnOk result ((more : List ℕ) × IsNext (option_copied before.entry) spelling.now more × (into.new.items ≡ into.old.items ++ more)) }
     ensures err { OnErr result (take (length into.old.items) into.new.items ≡ into.old.items) }
 {
@@ -47,18 +46,30 @@ pub(crate) fn write_tokens(src: &[u8], cut: &Cut, into: &mut Vec<u8>) -> Result<
     Ok(())
 }
 
-/// Appends the `#` line of a cut, if it has one, and a line feed. What an error leaves begins with what was there.
+/// Appends the `#` line of a cut, if it has one, and a line feed. Only a mark stands before it. What an error leaves
+/// begins with what was there.
 pub(crate) fn write_hash_line(src: &[u8], cut: &Cut, into: &mut Vec<u8>) -> Result<(), Memory>
     requires { IsCut src.now cut.now }
     ensures ok { OnOk result (into.new.items ≡ into.old.items ++ hash_text src.now cut.now) }
     ensures err { OnErr result (take (length into.old.items) into.new.items ≡ into.old.items) }
 {
-    for piece in cut.pieces() {
+    for piece in first_two(cut.pieces()) {
         if let Err(e) = write_if_hash_line(src, piece, into) {
             return Err(e);
         }
     }
     Ok(())
+}
+
+/// The first two pieces, or all where there are fewer.
+fn first_two(pieces: &[Piece]) -> &[Piece]
+    ensures { result.now ≡ take 2 pieces.now }
+{
+    if pieces.len() > 2 {
+        &pieces[..2]
+    } else {
+        pieces
+    }
 }
 
 fn write_if_hash_line(src: &[u8], piece: &Piece, into: &mut Vec<u8>) -> Result<(), Memory>

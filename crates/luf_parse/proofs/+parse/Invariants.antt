@@ -3,8 +3,9 @@ use Rattle.luf_lex.specs.Tokens.{toks_of}
 use Rattle.luf_tree.specs.declared.tree.Expr.{Expr, out-Expr}
 use Rattle.luf_tree.specs.Level.{deepest, expr_levels, field_levels, step_levels, suffix_levels, stat_levels, arm_levels}
 use Rattle.luf_tree.specs.Grammar.{IsExpr, AreSteps, AreFields, AreExprs, AreSuffixes, AreStats, AreArms, AreTargets, IsVariable}
-use Rattle.luf_parse.specs.Reads.{Found, level_at}
-use Rattle.luf_parse.specs.Parts.{ReadExpr, ReadExprs, ReadFields, ReadArms, ReadStats, ReadMoreTargets, ReadSteps}
+use Rattle.luf_parse.specs.inner.Reads.{Found}
+use Rattle.luf_parse.specs.inner.Follow.{precedence_at}
+use Rattle.luf_parse.specs.inner.Parts.{ReadExpr, ReadExprs, ReadFields, ReadArms, ReadStats, ReadMoreTargets, ReadSteps}
 use Rattle.luf_parse.proofs.Exactness.{Ahead}
 use Rattle.luf_parse.proofs.ExprForms.{SuffixesRead, Grown}
 use Rattle.luf_parse.proofs.Joining.{Joins}
@@ -15,7 +16,7 @@ abbrev pub decreases-expressions::expr : goal.decreases-expressions::expr
 decreases-expressions::expr l = 64 * l.left + (10 + 2 * (12 - l.least))
 
 abbrev pub decreases-expressions::chain : goal.decreases-expressions::chain
-decreases-expressions::chain l = 64 * l.left + (9 + 2 * (12 - l.level))
+decreases-expressions::chain l = 64 * l.left + (9 + 2 * (12 - l.precedence))
 
 abbrev pub decreases-expressions::operand : goal.decreases-expressions::operand
 decreases-expressions::operand l = 64 * l.left + 9
@@ -134,21 +135,21 @@ decreases-statements::function_stat l = 64 * l.left + 50
 abbrev pub decreases-statements::local_stat : goal.decreases-statements::local_stat
 decreases-statements::local_stat l = 64 * l.left + 50
 
-abbrev pub invariant-expressions::expr-levels : goal.invariant-expressions::expr-levels
-invariant-expressions::expr-levels l = record {
+abbrev pub invariant-expressions::expr-chains : goal.invariant-expressions::expr-chains
+invariant-expressions::expr-chains l = record {
   grown : (e : Expr) → ReadExpr (toks_of l.cut) l.least l.left l.at e → Grown (toks_of l.cut) l.left l.at l.whole l.least e;
-  part : Found (toks_of l.cut) (l.at + 1) (out-Expr l.whole).to l.left (expr_levels l.whole) (IsExpr (toks_of l.cut) (level_at (toks_of l.cut) (out-Expr l.whole).to + 1) l.at (out-Expr l.whole).to l.whole);
+  part : Found (toks_of l.cut) (l.at + 1) (out-Expr l.whole).to l.left (expr_levels l.whole) (IsExpr (toks_of l.cut) (precedence_at (toks_of l.cut) (out-Expr l.whole).to + 1) l.at (out-Expr l.whole).to l.whole);
   least : IsExpr (toks_of l.cut) l.least l.at (out-Expr l.whole).to l.whole;
 }
 
-abbrev pub decreases-expressions::expr-levels : goal.decreases-expressions::expr-levels
-decreases-expressions::expr-levels l = level_at (toks_of l.cut) (out-Expr l.whole).to
+abbrev pub decreases-expressions::expr-chains : goal.decreases-expressions::expr-chains
+decreases-expressions::expr-chains l = precedence_at (toks_of l.cut) (out-Expr l.whole).to
 
 abbrev pub invariant-expressions::chain-loop-next : goal.invariant-expressions::chain-loop-next
 invariant-expressions::chain-loop-next l = record {
-  ahead : Ahead (ReadSteps (toks_of l.cut) l.level l.left (out-Expr l.first).to) l.rest (ReadSteps (toks_of l.cut) l.level l.left l.sign);
-  joins : Joins (AreSteps (toks_of l.cut) l.level) (out-Expr l.first).to l.sign l.rest;
-  next : level_at (toks_of l.cut) l.sign ≡ l.level;
+  ahead : Ahead (ReadSteps (toks_of l.cut) l.precedence l.left (out-Expr l.first).to) l.rest (ReadSteps (toks_of l.cut) l.precedence l.left l.sign);
+  joins : Joins (AreSteps (toks_of l.cut) l.precedence) (out-Expr l.first).to l.sign l.rest;
+  next : precedence_at (toks_of l.cut) l.sign ≡ l.precedence;
   forward : (out-Expr l.first).to ≤ l.sign;
   level : deepest (map step_levels l.rest) ≤ l.left;
 }

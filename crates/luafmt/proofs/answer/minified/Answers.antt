@@ -5,7 +5,7 @@ use Rattle.luafmt.proofs.answer.minified.Goals as goal
 pub returns-in-Ok-clause-gives : goal.returns-in-Ok-clause-gives
 returns-in-Ok-clause-gives c = λ words m.
     let written = c.in-Ok.ensures.ok in
-    done_of words c.args.source.now c.minify_bytes.new.into.items written.0 m c.in-Ok.ensures.accepted.within written.1 written.3
+    done_of words c.args.source.now c.minify_bytes.new.into.items written.0 m c.in-Ok.ensures.accepted.accepted.within written.1 written.3
     (subst (λ (old : List ℕ). c.minify_bytes.new.into.items ≡ old ++ written.0) c.new-out.ensures.items written.4)
 
 pub returns-in_ok-refused-in-Err-clause-gives : goal.returns-in_ok-refused-in-Err-clause-gives

@@ -1,5 +1,5 @@
 use Rattle.std.proofs.Common.{◌≡◌, ◌+◌, ◌-◌, length, length-drop, drop, sym, ap, ◌∙◌, arith}
-use Rattle.luf_lex.specs.Scan.{mark_of, step_of}
+use Rattle.luf_lex.specs.inner.Scan.{mark_of, step_of}
 use Rattle.luf_lex.proofs.RunLemmas.{tail_is}
 use Rattle.luf_lex.proofs.NumeralLemmas.{scan_on, scan_end, one_letter}
 use Rattle.luf_lex.proofs.numeral.tail.Goals as goal

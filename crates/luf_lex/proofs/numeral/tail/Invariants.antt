@@ -1,6 +1,6 @@
 use Rattle.std.proofs.Common.{◌≡◌, ◌+◌, ◌-◌, ◌≤◌, length, drop}
 use Rattle.luf_lex.specs.First.{numeral_tail}
-use Rattle.luf_lex.specs.Scan.{mark_of}
+use Rattle.luf_lex.specs.inner.Scan.{mark_of}
 use Rattle.luf_lex.proofs.numeral.tail.Given as goal
 
 -- the bytes so far and what the scan takes of the rest are what it takes of all

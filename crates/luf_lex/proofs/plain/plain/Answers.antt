@@ -1,6 +1,5 @@
 use Rattle.std.proofs.Common.{true, false, sym, ◌∙◌}
-use Rattle.luf_str.specs.Bytes.{is_line_byte}
-use Rattle.luf_lex.specs.Byte.{is_letter, is_blank}
+use Rattle.luf_byte.specs.Class.{is_line_byte, is_letter, is_blank}
 use Rattle.luf_lex.proofs.RunLemmas.{begins_with}
 use Rattle.luf_lex.proofs.PlainLemmas.{blank_first, line_end_first, sign_first, none_first}
 use Rattle.luf_lex.proofs.plain.plain.Goals as goal
@@ -11,7 +10,7 @@ returns-then-is_blank c =
 
 pub returns-then-is_line_byte : goal.returns-then-is_line_byte
 returns-then-is_line_byte c =
-    line_end_first c.args.text.now c.line_end.result c.requires.other (begins_with is_line_byte c.args.text.now true c.requires.some (sym c.is_line_byte.ensures ∙ c.if-is_line_byte.true)) c.line_end.ensures.within c.line_end.ensures.spelled c.line_end.ensures.longest
+    line_end_first c.args.text.now c.line_end_length.result c.requires.other (begins_with is_line_byte c.args.text.now true c.requires.some (sym c.is_line_byte.ensures ∙ c.if-is_line_byte.true)) c.line_end_length.ensures.value
 
 pub returns-in-Some : goal.returns-in-Some
 returns-in-Some c =

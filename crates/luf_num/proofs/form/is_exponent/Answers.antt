@@ -1,6 +1,6 @@
 -- An exponent is cut in one way.
 use Rattle.std.proofs.Common.{sym, ◌∙◌}
-use Rattle.luf_num.specs.Base.{is_mark_in}
+use Rattle.luf_num.specs.inner.Base.{is_mark_in}
 use Rattle.luf_num.proofs.Scanning.{exponent_from_cut, cut_from_exponent}
 use Rattle.luf_num.proofs.form.is_exponent.Goals as goal
 

@@ -1,5 +1,5 @@
 -- The cut is the one at `prefix_len`.
-use Rattle.luf_num.specs.Base.{is_digit_in}
+use Rattle.luf_num.specs.inner.Base.{is_digit_in}
 use Rattle.luf_num.proofs.Scanning.{splits_at_prefix}
 use Rattle.luf_num.proofs.form.split_digits.Goals as goal
 

@@ -1,4 +1,4 @@
-use Rattle.std.proofs.Common.{arith}
+use Rattle.std.proofs.Common.{arith, ◌∙◌}
 use Rattle.luf_lex.specs.Tokens.{toks_of}
 use Rattle.luf_tree.specs.Grammar.{AreDeclared, one_declared, more_declared}
 use Rattle.luf_parse.proofs.Joining.{joins_none, joins_more, joins_last}
@@ -31,7 +31,7 @@ pub returns-in-None-clause-ok : goal.returns-in-None-clause-ok
 returns-in-None-clause-ok c =
     let h0 = c.in_ok-after.ensures in
     let h1 = c.in_ok-attribute.ensures in
-    record { derived = joins_last (AreDeclared (toks_of c.args.cut.now)) _ _ _ _ _ _ c.loop-found.invariant.joins c.in_ok-push.ensures.ok (one_declared h0.token h1.ok.derived); forward = omega arith; within = omega arith; level = omega arith }
+    record { derived = joins_last (AreDeclared (toks_of c.args.cut.now)) _ _ _ _ _ _ c.loop-found.invariant.joins (c.exact.ensures ∙ c.in_ok-push.ensures.ok) (one_declared h0.token h1.ok.derived); forward = omega arith; within = omega arith; level = omega arith }
 
 pub returns-in_err-after-clause-none : goal.returns-in_err-after-clause-none
 returns-in_err-after-clause-none c = passes _ c.from_residual.ensures.1 (ahead_refutes _ c.loop-found.invariant.ahead (refutes_form declared_form (refutes_first (refutes_first c.in_err-after.ensures.none))))
@@ -42,4 +42,4 @@ returns-in_err-attribute-clause-none c =
 
 pub returns-in-None-clause-only : goal.returns-in-None-clause-only
 returns-in-None-clause-only c =
-    ahead_last _ c.loop-found.invariant.ahead c.in_ok-push.ensures.ok (list_last declared_form (alone_next c.in_ok-after.ensures.only c.in_ok-attribute.ensures.only) (λ next u. c.in-None.ensures.other u.there))
+    ahead_last _ c.loop-found.invariant.ahead (c.exact.ensures ∙ c.in_ok-push.ensures.ok) (list_last declared_form (alone_next c.in_ok-after.ensures.only c.in_ok-attribute.ensures.only) (λ next u. c.in-None.ensures.other u.there))

@@ -1,4 +1,4 @@
-use Rattle.std.proofs.Common.{arith}
+use Rattle.std.proofs.Common.{arith, ◌∙◌}
 use Rattle.luf_lex.specs.Tokens.{toks_of}
 use Rattle.luf_tree.specs.Grammar.{AreNames, one_name, more_names}
 use Rattle.luf_parse.proofs.Joining.{joins_none, joins_more, joins_last}
@@ -28,11 +28,11 @@ loop-found-smaller c =
 pub returns-in-None-clause-ok : goal.returns-in-None-clause-ok
 returns-in-None-clause-ok c =
     let h0 = c.in_ok-to.ensures in
-    record { derived = joins_last (AreNames (toks_of c.args.cut.now)) _ _ _ _ _ _ c.loop-found.invariant.joins c.in_ok-push.ensures.ok (one_name h0.token); forward = omega arith; within = omega arith; level = omega arith }
+    record { derived = joins_last (AreNames (toks_of c.args.cut.now)) _ _ _ _ _ _ c.loop-found.invariant.joins (c.exact.ensures ∙ c.in_ok-push.ensures.ok) (one_name h0.token); forward = omega arith; within = omega arith; level = omega arith }
 
 pub returns-in_err-to-clause-none : goal.returns-in_err-to-clause-none
 returns-in_err-to-clause-none c = passes _ c.from_residual.ensures.1 (ahead_refutes _ c.loop-found.invariant.ahead (refutes_form names_form (refutes_first c.in_err-to.ensures.none)))
 
 pub returns-in-None-clause-only : goal.returns-in-None-clause-only
 returns-in-None-clause-only c =
-    ahead_last _ c.loop-found.invariant.ahead c.in_ok-push.ensures.ok (list_last names_form c.in_ok-to.ensures.only (λ next u. c.in-None.ensures.other u.there))
+    ahead_last _ c.loop-found.invariant.ahead (c.exact.ensures ∙ c.in_ok-push.ensures.ok) (list_last names_form c.in_ok-to.ensures.only (λ next u. c.in-None.ensures.other u.there))

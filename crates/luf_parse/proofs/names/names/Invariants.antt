@@ -1,7 +1,7 @@
 use Rattle.std.proofs.Common.{◌-◌, ◌≤◌, length}
 use Rattle.luf_lex.specs.Tokens.{toks_of}
 use Rattle.luf_tree.specs.Grammar.{AreNames}
-use Rattle.luf_parse.specs.Parts.{ReadNames}
+use Rattle.luf_parse.specs.inner.Parts.{ReadNames}
 use Rattle.luf_parse.proofs.Exactness.{Ahead}
 use Rattle.luf_parse.proofs.Joining.{Joins}
 use Rattle.luf_parse.proofs.names.names.Given as goal

@@ -1,7 +1,7 @@
 use Rattle.std.proofs.Common.{◌-◌, ◌≤◌, length}
 use Rattle.luf_lex.specs.Tokens.{toks_of}
 use Rattle.luf_tree.specs.Grammar.{IsPath}
-use Rattle.luf_parse.specs.Parts.{ReadPath}
+use Rattle.luf_parse.specs.inner.Parts.{ReadPath}
 use Rattle.luf_parse.proofs.Exactness.{Ahead}
 use Rattle.luf_parse.proofs.Joining.{Joins}
 use Rattle.luf_parse.proofs.names.path.Given as goal

@@ -1,5 +1,5 @@
 use Rattle.std.proofs.Common.{◌≡◌, drop, Some, ap, sym, ◌∙◌, arith}
-use Rattle.luf_str.specs.Reading.{escape_at}
+use Rattle.luf_str.specs.inner.Reading.{escape_at}
 use Rattle.luf_str.proofs.FrontLaws.{escape_front, bad_front}
 use Rattle.luf_str.proofs.fronts.front_of.Goals as goal
 use Rattle.luf_str.proofs.fronts.front_of.Goals.{In-Some}

@@ -2,8 +2,8 @@ use Rattle.std.proofs.Common.{◌≡◌, ◌-◌, ◌≤◌, ◌++◌, List, ℕ
 use Rattle.luf_str.proofs.LongLaws.{IsLongReadTo}
 use Rattle.luf_str.proofs.values.push_lines.Given as goal
 
-abbrev pub invariant-loop-at : goal.invariant-loop-at
-invariant-loop-at l = (l.at ≤ length l.body) × ((done : List ℕ) × IsLongReadTo l.body (drop l.at l.body) done × (l.into.items ≡ l.initial.into.items ++ done))
+abbrev pub invariant-lines : goal.invariant-lines
+invariant-lines l = (l.at ≤ length l.body) × ((done : List ℕ) × IsLongReadTo l.body (drop l.at l.body) done × (l.into.items ≡ l.initial.into.items ++ done))
 
-abbrev pub decreases-loop-at : goal.decreases-loop-at
-decreases-loop-at l = length l.body - l.at
+abbrev pub decreases-lines : goal.decreases-lines
+decreases-lines l = length l.body - l.at

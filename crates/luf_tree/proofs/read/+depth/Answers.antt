@@ -43,10 +43,10 @@ pub of_stat-returns-in-Return : goal.of_stat-returns-in-Return
 of_stat-returns-in-Return t c = omega (arith, read.return_read c.args.s.now c.in-Return.values c.in-Return.is, ap (λ xs. deepest (map expr_levels xs)) c.as_slice-in-Return.ensures)
 
 pub of_stat-returns-in-ForIn : goal.of_stat-returns-in-ForIn
-of_stat-returns-in-ForIn t c = omega (arith, read.for_in_read c.args.s.now c.in-ForIn.names c.in-ForIn.values c.in-ForIn.body c.in-ForIn.is, ap (λ xs. deepest (map expr_levels xs)) c.as_slice-in-ForIn.ensures)
+of_stat-returns-in-ForIn t c = omega (arith, read.for_in_read c.args.s.now c.in-ForIn.names c.in-ForIn.values c.in-ForIn.body c.in-ForIn.is, ap (λ xs. deepest (map expr_levels xs)) c.as_slice-in-ForIn.ensures, ap block_levels c.get-in-ForIn.ensures)
 
 pub of_stat-returns-in-Some : goal.of_stat-returns-in-Some
-of_stat-returns-in-Some t c = omega (arith, read.if_read c.args.s.now c.in-If.arms c.in-If.last c.in-If.is, ap (λ xs. deepest (map arm_levels xs)) c.as_slice-in-If.ensures, ap (λ b. block_if_there (option_map block_levels b)) c.in-Some.is)
+of_stat-returns-in-Some t c = omega (arith, read.if_read c.args.s.now c.in-If.arms c.in-If.last c.in-If.is, ap (λ xs. deepest (map arm_levels xs)) c.as_slice-in-If.ensures, ap (λ b. block_if_there (option_map block_levels b)) c.in-Some.is, ap block_levels c.get-in-Some.ensures)
 
 pub of_stat-returns-in-None : goal.of_stat-returns-in-None
 of_stat-returns-in-None t c = omega (arith, read.if_read c.args.s.now c.in-If.arms c.in-If.last c.in-If.is, ap (λ xs. deepest (map arm_levels xs)) c.as_slice-in-If.ensures, ap (λ b. block_if_there (option_map block_levels b)) c.in-None.is)

@@ -1,5 +1,5 @@
 use Rattle.std.proofs.Common.{◌≡◌, ◌++◌, take}
-use Rattle.luf_work.specs.Minified.{hash_text}
+use Rattle.luf_work.specs.Text.{hash_text}
 use Rattle.luf_work.proofs.text.write_hash_line.Given as goal
 
 -- the `#` lines of the pieces so far are written

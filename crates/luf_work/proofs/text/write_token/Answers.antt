@@ -1,6 +1,6 @@
 use Rattle.std.proofs.Common.{[], ◌∷◌, ◌++◌, refl, sym, ap, ◌∙◌, subst, append_assoc}
 use Rattle.std.specs.Option.{option_copied}
-use Rattle.luf_work.specs.Next.{IsNext, first, next_apart, next_spaced}
+use Rattle.luf_work.specs.inner.Next.{IsNext, first, next_apart, next_spaced}
 use Rattle.luf_work.proofs.text.write_token.Goals as goal
 use Rattle.luf_work.proofs.text.write_token.Goals.{in-Some+then-needs_space+in_ok-push, in-Some+else-needs_space, in_default}
 

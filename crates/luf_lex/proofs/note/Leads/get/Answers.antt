@@ -1,5 +1,5 @@
 use Rattle.std.proofs.Common.{length, arith, ap, ◌∙◌, take, drop, ◌-◌}
-use Rattle.luf_lex.proofs.NoteLemmas.{read_rising, read_stretch}
+use Rattle.luf_lex.proofs.NoteLemmas.{read_rising, read_notes}
 use Rattle.luf_lex.proofs.note.Leads.get.Goals as goal
 
 pub slice_bounds-result-count : goal.slice_bounds-result-count
@@ -17,4 +17,4 @@ slice_bounds-result-end c =
 pub returns : goal.returns
 returns c =
     ap (λ ns. take (c.index-2.result.now - c.index.result.now) (drop c.index.result.now ns)) c.deref.ensures.value
-    ∙ read_stretch c.args.self.now.notes.items c.args.self.now.bounds.items c.args.n c.index.result.now c.index-2.result.now c.requires.within c.index.ensures c.index-2.ensures
+    ∙ read_notes c.args.self.now.notes.items c.args.self.now.bounds.items c.args.n c.index.result.now c.index-2.result.now c.requires.within c.index.ensures c.index-2.ensures

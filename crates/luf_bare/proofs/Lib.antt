@@ -1,0 +1,10 @@
+pub mod BareLevels
+pub mod BareMap
+pub mod Ends
+pub mod Reading
+pub mod Written
+pub mod Significant
+pub mod Ranks
+pub mod EachWritten
+pub mod ReadBackLaws
+pub mod Examples

@@ -1,0 +1,8 @@
+//! The bare program of a chunk, what is written of it, and that this is read as the same program.
+#![tactic(auto)]
+
+mod laws;
+
+pub use laws::{
+    one_depth, ranks_count, ranks_in_order, significant_are_written, text_is_read, written_is_read,
+};

@@ -1,0 +1,7 @@
+pub mod DocumentLaws
+pub mod FlatLaws
+pub mod TableLaws
+pub mod SizeLoop
+pub mod AddLoop
+pub mod LayoutLaws
+mod Examples

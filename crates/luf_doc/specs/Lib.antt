@@ -1,0 +1,5 @@
+pub mod Document
+pub mod Flat
+pub mod Layout
+pub mod Table
+pub mod inner

@@ -1,9 +1,0 @@
-use Rattle.std.proofs.Common.{◌-◌, ◌≤◌, length}
-use Rattle.luf_lex.proofs.BracketLemmas.{NoneBelow}
-use Rattle.luf_lex.proofs.bracket.long_length.Given as goal
-
-abbrev pub invariant-closings : goal.invariant-closings
-invariant-closings l = (l.at ≤ length l.inner) × NoneBelow l.level l.inner l.at
-
-abbrev pub decreases-closings : goal.decreases-closings
-decreases-closings l = length l.inner - l.at

@@ -1,0 +1,2 @@
+-- The listing of a function, line by line.
+pub mod Listing

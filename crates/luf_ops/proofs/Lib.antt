@@ -1,0 +1,3 @@
+-- Operations by their numbers, and instructions by their words.
+pub mod Numbers
+pub mod Words

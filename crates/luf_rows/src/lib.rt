@@ -1,0 +1,24 @@
+//! Tests alone: tables of the public calls of the crates below, from the bytes of a source to its text. What a row says
+//! comes from the Lua 5.4 manual, from the answers of the Lua 5.4 scanner, or is counted by hand.
+//!
+//! They stand in one crate, so that those below are proved once and not again for their tests.
+#![tactic(auto)]
+
+#[cfg(test)]
+mod grammar;
+#[cfg(test)]
+mod jobs;
+#[cfg(test)]
+mod lexis;
+#[cfg(test)]
+mod numerals;
+#[cfg(test)]
+mod outside;
+#[cfg(test)]
+mod places;
+#[cfg(test)]
+mod sources;
+#[cfg(test)]
+mod spaces;
+#[cfg(test)]
+mod strings;

@@ -1,0 +1,5 @@
+-- What only private functions cite.
+pub mod Ahead
+pub mod Leads
+pub mod Modes
+pub mod Shows

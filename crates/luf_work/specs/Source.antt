@@ -1,0 +1,22 @@
+-- What every job accepts. The limits are our own.
+use Rattle.std.specs.Prelude.{ℕ, ◌≤◌, List, length}
+use Rattle.luf_lex.specs.Cut.{IsCut}
+use Rattle.luf_lex.specs.Tokens.{toks_of}
+use Rattle.luf_lex.specs.declared.token.Piece.{Piece}
+use Rattle.luf_tree.specs.declared.tree.Chunk.{Chunk}
+use Rattle.luf_tree.specs.Grammar.{IsChunk}
+use Rattle.luf_tree.specs.Level.{level_limit, depth_of}
+use Rattle.luf_work.specs.Limits.{source_limit}
+
+-- a source: its pieces, and a tree of its tokens that is nested at most 200 levels deep
+pub record IsSource (source : List ℕ) (pieces : List Piece) (chunk : Chunk) : Type 0 where
+  pub cut : IsCut source pieces
+  pub tree : IsChunk (toks_of pieces) chunk
+  pub levels : depth_of chunk ≤ level_limit
+
+-- what every job accepts: a source within the limit of 4 MiB
+pub record IsAccepted (source : List ℕ) : Type 0 where
+  pub within : length source ≤ source_limit
+  pub pieces : List Piece
+  pub chunk : Chunk
+  pub is : IsSource source pieces chunk
