@@ -11,8 +11,8 @@ use Rattle.luf_num.specs.declared.Number.{Number}
 use Rattle.luf_num.specs.declared.Number.TheVariants.{Int, Float}
 use Rattle.luf_num.specs.declared.form.Base.{Base}
 use Rattle.luf_num.specs.declared.form.Base.TheVariants.{Decimal, Hexadecimal}
-use Rattle.luf_num.specs.Numeral.{IsDigits, IsHexPrefix, IsExponent, HasFloatForm, IsDecimal, IsHexRest, HasNumeralForm, is_decimal_mark, is_binary_mark}
-use Rattle.luf_num.specs.inner.Parts.{SplitsFirst, is_point, is_sign}
+use Rattle.luf_num.specs.Numeral.{IsDigits, IsHexPrefix, IsExponent, HasFloatForm, IsDecimal, IsHexRest, HasNumeralForm, is_decimal_mark, is_binary_mark, is_sign}
+use Rattle.luf_num.specs.inner.Parts.{SplitsFirst, is_point}
 use Rattle.luf_num.proofs.Forms.{none_behind_prefix, form_without_prefix}
 use Rattle.luf_lex.proofs.Decided.{Decided, same_or_not}
 use Rattle.luf_num.proofs.Scanning.{splits_at_prefix, exponent_from_cut, cut_from_exponent, CutHasForm, form_from_parts, parts_from_form}
