@@ -3,3 +3,4 @@ pub mod Local
 pub mod Jump
 pub mod Occurrences
 pub mod Role
+pub mod inner

@@ -20,12 +20,15 @@ pub record Holder : Type 0 where
 abbrev pub span_of : tokens.Block → tokens.Span
 span_of (syntax.block span _) = span
 
--- only labels and `;`, which do nothing
+-- labels and `;`, which do nothing
+abbrev pub is_void : tokens.Statement → Bool
+is_void (syntax.empty_statement _) = true
+is_void (syntax.label _ _) = true
+is_void _ = false
+
 abbrev pub are_void : tokens.Statements → Bool
 are_void syntax.no_statements = true
-are_void (syntax.more_statements (syntax.empty_statement _) rest) = are_void rest
-are_void (syntax.more_statements (syntax.label _ _) rest) = are_void rest
-are_void (syntax.more_statements _ rest) = false
+are_void (syntax.more_statements first rest) = is_void first && are_void rest
 
 abbrev pub locals_of : ℕ → ℕ → List tokens.DeclaredName → List Occurrence
 locals_of from to names = map (λ d. Local d.name d.attribute from to) names
@@ -120,32 +123,32 @@ abbrev mutual
   occurrences_in_fields syntax.no_fields = []
   occurrences_in_fields (syntax.more_fields first rest) = occurrences_in_field first ++ occurrences_in_fields rest
 
-  -- of a statement in this block, before these others
-  pub occurrences_in_statement : Holder → tokens.Statements → tokens.Statement → List Occurrence
-  occurrences_in_statement holder rest (syntax.empty_statement span) = []
-  occurrences_in_statement holder rest (syntax.local_statement span names values) = locals_of span.to holder.end names ++ occurrences_in_expressions values
-  occurrences_in_statement holder rest (syntax.assignment span targets values) = occurrences_in_targets targets ++ occurrences_in_expressions values
-  occurrences_in_statement holder rest (syntax.call_statement span call) = occurrences_in_expression call
-  occurrences_in_statement holder rest (syntax.do_statement span body) = occurrences_in_block body
-  occurrences_in_statement holder rest (syntax.while_statement span test body) = occurrences_in_expression test ++ loop_of (span_of body) ∷ occurrences_in_block body
-  occurrences_in_statement holder rest (syntax.repeat_statement span body test) = loop_of (span_of body) ∷ occurrences_in_repeated span.to body ++ occurrences_in_expression test
-  occurrences_in_statement holder rest (syntax.if_statement span arms last) = occurrences_in_arms arms ++ occurrences_in_optional_block last
-  occurrences_in_statement holder rest (syntax.for_statement span name first limit step body) =
+  -- of a statement in this block, and whether only labels and `;` follow it there
+  pub occurrences_in_statement : Holder → Bool → tokens.Statement → List Occurrence
+  occurrences_in_statement holder ended (syntax.empty_statement span) = []
+  occurrences_in_statement holder ended (syntax.local_statement span names values) = locals_of span.to holder.end names ++ occurrences_in_expressions values
+  occurrences_in_statement holder ended (syntax.assignment span targets values) = occurrences_in_targets targets ++ occurrences_in_expressions values
+  occurrences_in_statement holder ended (syntax.call_statement span call) = occurrences_in_expression call
+  occurrences_in_statement holder ended (syntax.do_statement span body) = occurrences_in_block body
+  occurrences_in_statement holder ended (syntax.while_statement span test body) = occurrences_in_expression test ++ loop_of (span_of body) ∷ occurrences_in_block body
+  occurrences_in_statement holder ended (syntax.repeat_statement span body test) = loop_of (span_of body) ∷ occurrences_in_repeated span.to body ++ occurrences_in_expression test
+  occurrences_in_statement holder ended (syntax.if_statement span arms last) = occurrences_in_arms arms ++ occurrences_in_optional_block last
+  occurrences_in_statement holder ended (syntax.for_statement span name first limit step body) =
       loop_variables_of (span_of body) (name ∷ []) ++ occurrences_in_expression first ++ occurrences_in_expression limit ++ occurrences_in_optional_expression step
       ++ loop_of (span_of body) ∷ occurrences_in_block body
-  occurrences_in_statement holder rest (syntax.for_in_statement span names values body) =
+  occurrences_in_statement holder ended (syntax.for_in_statement span names values body) =
       loop_variables_of (span_of body) names ++ occurrences_in_expressions values ++ loop_of (span_of body) ∷ occurrences_in_block body
-  occurrences_in_statement holder rest (syntax.function_statement span name fields method body) =
+  occurrences_in_statement holder ended (syntax.function_statement span name fields method body) =
       path_of name fields method ++ method_of (span_of (body_of body)) method ++ occurrences_in_body body
-  occurrences_in_statement holder rest (syntax.local_function_statement span name body) = LocalFunction name (span_of_body body).from holder.end ∷ occurrences_in_body body
-  occurrences_in_statement holder rest (syntax.label span name) = Label name holder.span.from holder.span.to (not holder.until && are_void rest) ∷ []
-  occurrences_in_statement holder rest (syntax.goto_statement span name) = Goto span.from name ∷ []
-  occurrences_in_statement holder rest (syntax.break_statement span) = Break span.from ∷ []
-  occurrences_in_statement holder rest (syntax.return_statement span values) = occurrences_in_expressions values
+  occurrences_in_statement holder ended (syntax.local_function_statement span name body) = LocalFunction name (span_of_body body).from holder.end ∷ occurrences_in_body body
+  occurrences_in_statement holder ended (syntax.label span name) = Label name holder.span.from holder.span.to (not holder.until && ended) ∷ []
+  occurrences_in_statement holder ended (syntax.goto_statement span name) = Goto span.from name ∷ []
+  occurrences_in_statement holder ended (syntax.break_statement span) = Break span.from ∷ []
+  occurrences_in_statement holder ended (syntax.return_statement span values) = occurrences_in_expressions values
 
   pub occurrences_in_statements : Holder → tokens.Statements → List Occurrence
   occurrences_in_statements holder syntax.no_statements = []
-  occurrences_in_statements holder (syntax.more_statements first rest) = occurrences_in_statement holder rest first ++ occurrences_in_statements holder rest
+  occurrences_in_statements holder (syntax.more_statements first rest) = occurrences_in_statement holder (are_void rest) first ++ occurrences_in_statements holder rest
 
   pub occurrences_in_arm : tokens.Arm → List Occurrence
   occurrences_in_arm (syntax.arm test body) = occurrences_in_expression test ++ occurrences_in_block body

@@ -1,13 +1,16 @@
 //! What the names of a chunk mean: each local variable with its scope, and what each name refers to.
-#![tactic(auto)]
+#![tactic(none)]
 
+mod adding;
 mod binder;
 mod fault;
 mod jump;
 mod occurrence;
+mod reading;
 
 pub use binder::{Binder, BinderKind, Role};
 pub use fault::{ScopeBad, ScopeErr, ScopeWhat};
 pub use jump::JumpRole;
 pub use luf_memory::Memory;
 pub use occurrence::Occurrence;
+pub use reading::occurrences;
