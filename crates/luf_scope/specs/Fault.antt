@@ -1,6 +1,6 @@
 -- The scope faults of a chunk (Lua 5.4 manual, 3.3.4, 3.3.7 and 3.4.11): for each word the tokens at which it stands,
 -- and the first of all.
-use Rattle.std.specs.Prelude.{◌≡◌, ℕ, Bool, true, false, not, ◌&&◌, ◌||◌, cond, Option, Some, None, List, [], ◌∷◌, ◌++◌, map, slice_get, nat_le, nat_lt, nat_eq, bytes_eq, codes, is_none}
+use Rattle.std.specs.Prelude.{◌≡◌, ℕ, Bool, true, false, not, ◌&&◌, ◌||◌, cond, Option, Some, None, List, [], ◌∷◌, ◌++◌, map, slice_get, nat_le, nat_lt, nat_eq, bytes_eq, codes, is_none, if◌then◌else◌}
 use Rattle.std.specs.List.{filter_map, list_any}
 use Rattle.std.specs.Option.{option_eq, option_map_or, option_and_then}
 use Rattle.luf_scope.specs.Local.{Spelling, LocalVariable, FunctionAt, locals_of, functions_of, function_of, meaning, is_active}
@@ -103,3 +103,23 @@ earlier a (Some b) = cond (nat_lt b.token a.token) b a
 abbrev pub first_fault : List ScopeBad → Option ScopeBad
 first_fault [] = None
 first_fault (a ∷ faults) = Some (earlier a (first_fault faults))
+
+-- the order of words at one token
+abbrev pub rank : ScopeWhat → ℕ
+rank UnknownAttribute = 0
+rank TwoClose = 1
+rank ConstAssign = 2
+rank VarargOutside = 3
+rank LabelTwice = 4
+rank NoLabel = 5
+rank JumpIntoScope = 6
+rank BreakOutside = 7
+
+abbrev pub is_told_before : ScopeBad → ScopeBad → Bool
+is_told_before a b = nat_lt a.token b.token || (nat_eq a.token b.token && nat_lt (rank a.what) (rank b.what))
+
+-- of two faults, where there are any, the one at the earlier token; of two at one token, the one whose word comes first
+abbrev pub first_of : Option ScopeBad → Option ScopeBad → Option ScopeBad
+first_of None b = b
+first_of (Some a) None = Some a
+first_of (Some a) (Some b) = Some (if is_told_before b a then b else a)

@@ -1,9 +1,9 @@
 // Occurrences that are added one after another, where no part of the tree has to be entered.
-ghost use Rattle.std.specs.Prelude.{◌≡◌, ◌++◌, ◌∷◌, [], map, OnOk};
+ghost use Rattle.std.specs.Prelude.{◌≡◌, ◌++◌, ◌∷◌, [], ◌&&◌, not, map, OnOk};
 ghost use Rattle.luf_tree.specs.TokenSyntax.{from_to};
 ghost use Rattle.luf_tree.specs.SyntaxOf.{declared_of, first_of_path, rest_of_path, syntax_of_expr, syntax_of_stat};
 ghost use Rattle.luf_scope.specs.Occurrences.{is_void, locals_of, loop_variables_of, parameters_of, path_of, method_of};
-ghost use Rattle.luf_scope.specs.inner.Parts.{is_plain_variable};
+ghost use Rattle.luf_scope.specs.inner.Parts.{plain_variable};
 
 use crate::{Memory, Occurrence};
 use luf_tree::{Declared, Expr, ExprKind, Stat, StatKind};
@@ -137,12 +137,12 @@ pub fn is_void_statement(s: &Stat) -> bool
     }
 }
 
-// Whether an expression is a variable by itself.
-pub fn is_name(e: &Expr) -> bool
-    ensures { result ≡ is_plain_variable (syntax_of_expr e.now) }
+// The name of a variable by itself.
+pub fn plain_variable(e: &Expr) -> Option<u32>
+    ensures { result ≡ plain_variable (syntax_of_expr e.now) }
 {
     match &e.what {
-        ExprKind::Name => true,
+        ExprKind::Name => Some(e.from),
         ExprKind::Nil
         | ExprKind::True
         | ExprKind::False
@@ -155,6 +155,13 @@ pub fn is_name(e: &Expr) -> bool
         | ExprKind::Unary(_)
         | ExprKind::Chain { .. }
         | ExprKind::Power { .. }
-        | ExprKind::Suffixed { .. } => false,
+        | ExprKind::Suffixed { .. } => None,
     }
+}
+
+// Whether a label counts as outside the local variables of its block: it is at its end, which is not `until`.
+pub fn is_last(until: bool, ended: bool) -> bool
+    ensures { result ≡ (not until && ended) }
+{
+    !until && ended
 }

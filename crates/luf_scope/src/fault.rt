@@ -1,5 +1,6 @@
 // Why names and jumps are refused.
-
+ghost use Rattle.std.specs.Prelude.{◌≡◌};
+ghost use Rattle.luf_scope.specs.Fault as fault;
 
 /// The words of a scope fault, in the order in which they are told at one token.
 #[derive(Clone, Copy, Debug, PartialEq, Eq)]
@@ -46,5 +47,35 @@ impl From<luf_memory::Memory> for ScopeErr {
 
     fn from(_: luf_memory::Memory) -> ScopeErr {
         ScopeErr::Memory
+    }
+}
+
+/// Of two faults the one at the earlier token; of two at one token, the one whose word is told first.
+pub fn first_of(a: Option<ScopeBad>, b: Option<ScopeBad>) -> Option<ScopeBad>
+    ensures { result ≡ fault.first_of a b }
+{
+    let Some(x) = a else { return b };
+    let Some(y) = b else { return a };
+    if is_told_before(y, x) { b } else { a }
+}
+
+fn is_told_before(x: ScopeBad, y: ScopeBad) -> bool
+    ensures { result ≡ fault.is_told_before x y }
+{
+    x.token < y.token || x.token == y.token && rank(x.what) < rank(y.what)
+}
+
+fn rank(what: ScopeWhat) -> u8
+    ensures { result ≡ fault.rank what }
+{
+    match what {
+        ScopeWhat::UnknownAttribute => 0,
+        ScopeWhat::TwoClose => 1,
+        ScopeWhat::ConstAssign => 2,
+        ScopeWhat::VarargOutside => 3,
+        ScopeWhat::LabelTwice => 4,
+        ScopeWhat::NoLabel => 5,
+        ScopeWhat::JumpIntoScope => 6,
+        ScopeWhat::BreakOutside => 7,
     }
 }

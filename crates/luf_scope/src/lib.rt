@@ -1,5 +1,5 @@
 //! What the names of a chunk mean: each local variable with its scope, and what each name refers to.
-#![tactic(none)]
+#![tactic(auto)]
 
 mod adding;
 mod binder;
@@ -9,7 +9,7 @@ mod occurrence;
 mod reading;
 
 pub use binder::{Binder, BinderKind, Role};
-pub use fault::{ScopeBad, ScopeErr, ScopeWhat};
+pub use fault::{ScopeBad, ScopeErr, ScopeWhat, first_of};
 pub use jump::JumpRole;
 pub use luf_memory::Memory;
 pub use occurrence::Occurrence;

@@ -5,8 +5,8 @@ ghost use Rattle.luf_scope.specs.Occurrences.{span_of, loop_of, target_of, occur
 ghost use Rattle.luf_scope.specs.inner.Parts.{held_by};
 
 use crate::adding::{
-    add, add_locals, add_loop_variables, add_method, add_parameters, add_path, is_name,
-    is_void_statement,
+    add, add_locals, add_loop_variables, add_method, add_parameters, add_path, is_last,
+    is_void_statement, plain_variable,
 };
 use crate::{Memory, Occurrence};
 use luf_tree::{
@@ -128,10 +128,13 @@ fn of_stat(
             add_loop_variables(body.from, body.to, &[*name], into)?;
             of_expr(first.get(), into)?;
             of_expr(limit.get(), into)?;
-            if let Some(step) = step {
-                of_expr(step.get(), into)?;
+            match step {
+                Some(step) => {
+                    of_expr(step.get(), into)?;
+                    of_loop(body, into)
+                }
+                None => of_loop(body, into),
             }
-            of_loop(body, into)
         }
         StatKind::ForIn {
             names,
@@ -164,7 +167,7 @@ fn of_stat(
                 name: *name,
                 from: holder.from,
                 to: holder.to,
-                last: !holder.until && ended,
+                last: is_last(holder.until, ended),
             };
             add(one, into)
         }
@@ -236,10 +239,9 @@ fn of_targets(exprs: &[Expr], into: &mut Vec<Occurrence>) -> Result<(), Memory>
 fn of_target(e: &Expr, into: &mut Vec<Occurrence>) -> Result<(), Memory>
     ensures { OnOk result (into.new.items ≡ into.old.items ++ target_of (syntax_of_expr e.now) (occurrences_in_expression (syntax_of_expr e.now))) }
 {
-    if is_name(e) {
-        add(Occurrence::Assigns(e.from), into)
-    } else {
-        of_expr(e, into)
+    match plain_variable(e) {
+        Some(name) => add(Occurrence::Assigns(name), into),
+        None => of_expr(e, into),
     }
 }
 

@@ -1,5 +1,5 @@
 -- What the functions that read a tree look for in its parts.
-use Rattle.std.specs.Prelude.{ℕ, Bool, true, false, not, List, [], ◌∷◌}
+use Rattle.std.specs.Prelude.{ℕ, Bool, not, Option, Some, None}
 use Rattle.luf_tree.specs.Syntax as syntax
 use Rattle.luf_tree.specs.TokenSyntax as tokens
 use Rattle.luf_tree.specs.TokenSyntax.{from_to}
@@ -9,10 +9,10 @@ use Rattle.luf_scope.specs.Occurrences.{is_void}
 use Rattle.luf_scope.specs.Occurrences as occurrences
 use Rattle.luf_scope.specs.declared.reading.Holder.{Holder}
 
--- a variable by itself, which is assigned as the target of an assignment
-abbrev pub is_plain_variable : tokens.Expression → Bool
-is_plain_variable (syntax.variable _ _) = true
-is_plain_variable _ = false
+-- the name of a variable by itself, which is assigned as the target of an assignment
+abbrev pub plain_variable : tokens.Expression → Option ℕ
+plain_variable (syntax.variable span name) = Some name
+plain_variable _ = None
 
 -- a statement that does something
 abbrev pub is_solid : Stat → Bool
