@@ -20,7 +20,7 @@ pub pairs_append : {X : Type 0} (R : X → X → Type 0) (xs ys : List X) → Al
 pairs_append R [] ys first second across = second
 pairs_append R (x ∷ xs) ys first second across =
     pairs_cons R x (xs ++ ys) (All-append (R x) xs ys (pairs_head R x xs first) (All-head (λ u. All (R u) ys) x xs across))
-        (pairs_append R xs ys (pairs_tail R x xs first) second (All-tail (λ u. All (R u) ys) x xs across))
+    (pairs_append R xs ys (pairs_tail R x xs first) second (All-tail (λ u. All (R u) ys) x xs across))
 
 pub nothing_lies : (a e c : ℕ) → a ≤ e → e ≤ c → Lie a e c []
 nothing_lies a e c on up = record { on = on; up_to = up; pairs = λ i j d below inside. absurd (omega arith); within = All-nil (Within a e c) }
@@ -50,7 +50,7 @@ nested_behind m e c u v low up o p =
       before = λ h. absurd (omega (arith, at, after, h));
       inside = λ _. ⊎_elim
           (λ (same : to_of u ≡ c). inl (⊎_elim (λ (h : to_of v ≡ c). omega (arith, h, same)) (λ (h : to_of v ≤ e). omega (arith, h, same)) last))
-          (λ (short : to_of u ≤ m). inr (omega (arith, short, after))) o.ends
+          (λ (short : to_of u ≤ m). inr (omega (arith, short, after))) o.ends;
     }
 
 -- a part, and one behind it
@@ -62,7 +62,7 @@ joins a m e c xs ys first second =
       up_to = up;
       pairs = pairs_append Follows xs ys first.pairs second.pairs (λ i p one j q two. let u = first.within i p one in let v = second.within j q two in
           record { later = let h = u.high in let k = v.low in omega (arith, h, k); nested = λ du dv. nested_behind m e c (get_or xs i p) (get_or ys j q) v.low up (u.opens du) (v.opens dv) });
-      within = All-append (Within a e c) xs ys (wider a a m e c xs (omega arith) above up first).within (wider a m e e c ys below (omega arith) up second).within
+      within = All-append (Within a e c) xs ys (wider a a m e c xs (omega arith) above up first).within (wider a m e e c ys below (omega arith) up second).within;
     }
 
 -- one that declares nothing, in front
@@ -73,7 +73,7 @@ one_first a m e c u os none low long high rest =
       on = omega arith;
       up_to = rest.up_to;
       pairs = pairs_cons Follows u os (λ j q two. let v = rest.within j q two in record { later = let h = v.low in omega (arith, h); nested = λ du dv. absurd cc }) rest.pairs;
-      within = All-cons (Within a e c) u os (record { low = low; long = long; high = omega arith; opens = λ du. absurd cc }) (wider a m e e c os (omega arith) (omega arith) rest.up_to rest).within
+      within = All-cons (Within a e c) u os (record { low = low; long = long; high = omega arith; opens = λ du. absurd cc }) (wider a m e e c os (omega arith) (omega arith) rest.up_to rest).within;
     }
 
 -- one by itself
@@ -91,5 +91,5 @@ declared_first a m e f c u os low long high after to begins up last nested rest 
       on = omega arith;
       up_to = last;
       pairs = pairs_cons Follows u os (λ j q two. let v = rest.within j q two in record { later = let h = v.low in omega (arith, h); nested = λ du dv. nested (get_or os j q) v dv }) rest.pairs;
-      within = All-cons (Within a f c) u os (record { low = low; long = long; high = omega arith; opens = λ du. record { after = after; within = begins; forward = omega arith; ends = inl to } }) inner.within
+      within = All-cons (Within a f c) u os (record { low = low; long = long; high = omega arith; opens = λ du. record { after = after; within = begins; forward = omega arith; ends = inl to } }) inner.within;
     }

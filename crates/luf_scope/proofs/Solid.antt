@@ -25,8 +25,8 @@ one_statement h stats i s solid old new all inside is before left added =
     let rest = drop (i + 1) stats in
     let ended : nat_eq solid 0 ≡ are_void (statements_of (map syntax_of_stat rest)) = ap (λ n. nat_eq n 0) left ∙ sym (ended_is rest) in
     one_more (λ xs. occurrences_in_statements h (statements_of (map syntax_of_stat xs))) stats i s
-        (occurrences_in_statement h (are_void (statements_of (map syntax_of_stat rest))) (syntax_of_stat s)) old new all refl inside is before
-        (added ∙ ap (λ b. old ++ occurrences_in_statement h b (syntax_of_stat s)) ended)
+    (occurrences_in_statement h (are_void (statements_of (map syntax_of_stat rest))) (syntax_of_stat s)) old new all refl inside is before
+    (added ∙ ap (λ b. old ++ occurrences_in_statement h b (syntax_of_stat s)) ended)
 
 -- how many statements are left that do something, behind one
 left_by : (v : Bool) (m n k : ℕ) → m ≡ cond v 1 0 + n → k ≡ cond v (m - 1) m → k ≡ n

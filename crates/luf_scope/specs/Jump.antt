@@ -75,4 +75,4 @@ label_role None other = other
 abbrev pub jump_role_of : Spelling → List Occurrence → ℕ → Option JumpRole
 jump_role_of spelled occurrences token =
     label_role (position_from (λ l. nat_eq l.token token) 0 (labels_of spelled occurrences))
-        (goto_role (labels_of spelled occurrences) (gotos_of spelled occurrences) token)
+    (goto_role (labels_of spelled occurrences) (gotos_of spelled occurrences) token)

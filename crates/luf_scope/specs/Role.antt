@@ -34,6 +34,6 @@ declared_at locals token = position_from (λ v. nat_eq v.token token) 0 locals
 abbrev pub role_of : Spelling → List Occurrence → ℕ → Role
 role_of spelled occurrences token =
     declaration (declared_at (locals_of spelled occurrences) token)
-        (if list_any (is_variable token) occurrences then reference (meaning (locals_of spelled occurrences) token (spelled token))
-         else if list_any (is_field token) occurrences then role.Field
-         else role.Plain)
+    (if list_any (is_variable token) occurrences then reference (meaning (locals_of spelled occurrences) token (spelled token))
+    else if list_any (is_field token) occurrences then role.Field
+    else role.Plain)

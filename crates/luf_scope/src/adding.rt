@@ -78,11 +78,7 @@ fn add_fields(names: &[u32], into: &mut Vec<Occurrence>) -> Result<(), Memory>
 }
 
 // What `function` and its name say: the variable that is assigned, or read for its fields.
-pub fn add_path(
-    path: &[u32],
-    method: Option<u32>,
-    into: &mut Vec<Occurrence>,
-) -> Result<(), Memory>
+pub fn add_path(path: &[u32], method: Option<u32>, into: &mut Vec<Occurrence>) -> Result<(), Memory>
     ensures { OnOk result (into.new.items ≡ into.old.items ++ path_of (first_of_path path.now) (rest_of_path path.now) method) }
 {
     match (path, method) {

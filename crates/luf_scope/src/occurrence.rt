@@ -12,13 +12,29 @@ pub enum Occurrence {
         to: u32,
     },
     /// The name of `local function`.
-    LocalFunction { name: u32, from: u32, to: u32 },
+    LocalFunction {
+        name: u32,
+        from: u32,
+        to: u32,
+    },
     /// A parameter.
-    Parameter { name: u32, from: u32, to: u32 },
+    Parameter {
+        name: u32,
+        from: u32,
+        to: u32,
+    },
     /// The parameter `self` of a function that is declared as a method, by its `:`.
-    ImplicitSelf { colon: u32, from: u32, to: u32 },
+    ImplicitSelf {
+        colon: u32,
+        from: u32,
+        to: u32,
+    },
     /// A variable of `for`.
-    LoopVariable { name: u32, from: u32, to: u32 },
+    LoopVariable {
+        name: u32,
+        from: u32,
+        to: u32,
+    },
     /// A name that is used as a variable.
     Reads(u32),
     /// A name that is assigned, by an assignment or by `function`.
@@ -28,9 +44,16 @@ pub enum Occurrence {
     /// `...` as an expression.
     Varargs(u32),
     /// A function, from the `(` of its parameters to its `end`.
-    Function { from: u32, to: u32, vararg: bool },
+    Function {
+        from: u32,
+        to: u32,
+        vararg: bool,
+    },
     /// The block of a loop.
-    Loop { from: u32, to: u32 },
+    Loop {
+        from: u32,
+        to: u32,
+    },
     /// The name of a label, and the block that holds it. `last` says that only labels and `;` follow it there, and that
     /// the block does not end at `until`.
     Label {
@@ -40,7 +63,10 @@ pub enum Occurrence {
         last: bool,
     },
     /// `goto` and the name of its label.
-    Goto { token: u32, name: u32 },
+    Goto {
+        token: u32,
+        name: u32,
+    },
     /// `break`.
     Break(u32),
 }

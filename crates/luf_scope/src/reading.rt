@@ -9,9 +9,7 @@ use crate::adding::{
     is_void_statement, plain_variable,
 };
 use crate::{Memory, Occurrence};
-use luf_tree::{
-    Arm, Block, Chunk, Expr, ExprKind, Field, FuncBody, Stat, StatKind, Step, Suffix,
-};
+use luf_tree::{Arm, Block, Chunk, Expr, ExprKind, Field, FuncBody, Stat, StatKind, Step, Suffix};
 use std::alloc::Global;
 
 /// What a chunk says of names, functions, loops and jumps, in the order of its tokens.
@@ -62,7 +60,13 @@ fn of_repeated(end: u32, b: &Block, into: &mut Vec<Occurrence>) -> Result<(), Me
 fn of_loop(b: &Block, into: &mut Vec<Occurrence>) -> Result<(), Memory>
     ensures { OnOk result (into.new.items ≡ into.old.items ++ (loop_of (span_of (syntax_of_block b.now)) ∷ occurrences_in_block (syntax_of_block b.now))) }
 {
-    add(Occurrence::Loop { from: b.from, to: b.to }, into)?;
+    add(
+        Occurrence::Loop {
+            from: b.from,
+            to: b.to,
+        },
+        into,
+    )?;
     of_block(b, into)
 }
 
@@ -81,12 +85,7 @@ fn of_stats(holder: Holder, stats: &[Stat], into: &mut Vec<Occurrence>) -> Resul
 }
 
 #[cycle(reading)]
-fn of_stat(
-    holder: Holder,
-    ended: bool,
-    s: &Stat,
-    into: &mut Vec<Occurrence>,
-) -> Result<(), Memory>
+fn of_stat(holder: Holder, ended: bool, s: &Stat, into: &mut Vec<Occurrence>) -> Result<(), Memory>
     ensures { OnOk result (into.new.items ≡ into.old.items ++ occurrences_in_statement (held_by holder) ended (syntax_of_stat s.now)) }
 {
     match &s.what {
@@ -106,7 +105,13 @@ fn of_stat(
             of_loop(body.get(), into)
         }
         StatKind::Repeat { body, test } => {
-            add(Occurrence::Loop { from: body.from, to: body.to }, into)?;
+            add(
+                Occurrence::Loop {
+                    from: body.from,
+                    to: body.to,
+                },
+                into,
+            )?;
             of_repeated(s.to, body, into)?;
             of_expr(test.get(), into)
         }

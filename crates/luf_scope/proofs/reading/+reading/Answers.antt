@@ -38,12 +38,13 @@ of_fields-loop-f-preserved t c = one_more (λ xs. occurrences_in_fields (fields_
 pub of_stats-loop-s-preserved : goal.of_stats-loop-s-preserved
 of_stats-loop-s-preserved t c =
     let left : c.if-not-is_void_statement.solid ≡ count_by is_solid (drop (c.loop-s.s-index + 1) c.args.stats.now) =
-        elim c.if-not-is_void_statement.branch [
-          of_stats-then-not-is_void_statement w ↦ solid_left c.args.stats.now c.loop-s.s-index c.s-item.result c.loop-s.solid c.if-not-is_void_statement.solid c.loop-s-test.true c.s-item.is c.loop-s.invariant.solid (w.solid-is ∙ ap (λ v. cond (not v) (c.loop-s.solid - 1) c.loop-s.solid) w.if-not-is_void_statement.ensures)
-        | of_stats-else-not-is_void_statement w ↦ solid_left c.args.stats.now c.loop-s.s-index c.s-item.result c.loop-s.solid c.if-not-is_void_statement.solid c.loop-s-test.true c.s-item.is c.loop-s.invariant.solid (w.solid-is ∙ ap (λ v. cond (not v) (c.loop-s.solid - 1) c.loop-s.solid) w.if-not-is_void_statement.ensures) ] in
+    elim c.if-not-is_void_statement.branch [
+      | of_stats-then-not-is_void_statement w ↦ solid_left c.args.stats.now c.loop-s.s-index c.s-item.result c.loop-s.solid c.if-not-is_void_statement.solid c.loop-s-test.true c.s-item.is c.loop-s.invariant.solid (w.solid-is ∙ ap (λ v. cond (not v) (c.loop-s.solid - 1) c.loop-s.solid) w.if-not-is_void_statement.ensures)
+      | of_stats-else-not-is_void_statement w ↦ solid_left c.args.stats.now c.loop-s.s-index c.s-item.result c.loop-s.solid c.if-not-is_void_statement.solid c.loop-s-test.true c.s-item.is c.loop-s.invariant.solid (w.solid-is ∙ ap (λ v. cond (not v) (c.loop-s.solid - 1) c.loop-s.solid) w.if-not-is_void_statement.ensures)
+    ] in
     record {
       solid = left;
-      added = one_statement (held_by c.args.holder) c.args.stats.now c.loop-s.s-index c.s-item.result c.if-not-is_void_statement.solid _ _ _ c.loop-s-test.true c.s-item.is c.loop-s.invariant.added left c.in_ok-of_stat.ensures
+      added = one_statement (held_by c.args.holder) c.args.stats.now c.loop-s.s-index c.s-item.result c.if-not-is_void_statement.solid _ _ _ c.loop-s-test.true c.s-item.is c.loop-s.invariant.added left c.in_ok-of_stat.ensures;
     }
 
 pub of_arm-returns : goal.of_arm-returns

@@ -25,6 +25,6 @@ invariant-of_fields-loop-f l = l.into.items ++ occurrences_in_fields (fields_of 
 
 abbrev pub invariant-of_stats-loop-s : goal.invariant-of_stats-loop-s
 invariant-of_stats-loop-s l = record {
-    solid : l.solid ≡ count_by is_solid (drop l.s-index l.stats);
-    added : l.into.items ++ occurrences_in_statements (held_by l.holder) (statements_of (map syntax_of_stat (drop l.s-index l.stats))) ≡ l.fn.into.items ++ occurrences_in_statements (held_by l.holder) (statements_of (map syntax_of_stat l.stats))
-  }
+  solid : l.solid ≡ count_by is_solid (drop l.s-index l.stats);
+  added : l.into.items ++ occurrences_in_statements (held_by l.holder) (statements_of (map syntax_of_stat (drop l.s-index l.stats))) ≡ l.fn.into.items ++ occurrences_in_statements (held_by l.holder) (statements_of (map syntax_of_stat l.stats));
+}
