@@ -65,7 +65,7 @@ module _ (spelled : Spelling) (occurrences : List Occurrence) where
   abbrev pub without_label : GotoAt → Option ℕ
   without_label g = when (is_none (target (labels_of spelled occurrences) g)) g.token
 
-  -- a goto to a label inside its block, at which a local variable is active that is not at the goto
+  -- a local variable is active at the label and not at the goto, and the label is not at its block's end
   abbrev pub enters : GotoAt → LabelAt → LocalVariable → Bool
   enters g l v = not l.last && is_active l.token v && not (is_active g.token v)
 

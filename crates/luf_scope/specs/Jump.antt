@@ -1,8 +1,8 @@
 -- Labels, and where a `goto` goes (Lua 5.4 manual, 3.3.4): to the label of its name in the innermost block that has one,
 -- of the blocks of its function that hold it.
-use Rattle.std.specs.Prelude.{ℕ, ◌+◌, Bool, true, false, ◌&&◌, ◌||◌, cond, Option, Some, None, List, [], ◌∷◌, nat_le, nat_lt, nat_eq, bytes_eq}
+use Rattle.std.specs.Prelude.{ℕ, ◌+◌, Bool, ◌&&◌, cond, Option, Some, None, List, [], ◌∷◌, nat_le, nat_lt, nat_eq, bytes_eq}
 use Rattle.std.specs.List.{filter_map, position_from}
-use Rattle.std.specs.Option.{option_eq, option_map_or}
+use Rattle.std.specs.Option.{option_eq}
 use Rattle.luf_scope.specs.Local.{Spelling, FunctionAt, functions_of, function_of}
 use Rattle.luf_scope.specs.declared.jump.JumpRole.{JumpRole}
 use Rattle.luf_scope.specs.declared.jump.JumpRole.TheVariants as jump
@@ -45,7 +45,7 @@ gotos_of spelled occurrences = filter_map (goto_by spelled (functions_of occurre
 abbrev pub is_seen : Option ℕ → ℕ → List ℕ → LabelAt → Bool
 is_seen function place name l = option_eq nat_eq l.function function && nat_le l.from place && nat_lt place l.to && bytes_eq l.name name
 
--- of two labels that are seen, the first if no block further inside has the second
+-- of two labels that are seen, the one whose block begins later; of one block, the first
 abbrev pub inner : ℕ → LabelAt → Option (ℕ × LabelAt) → ℕ × LabelAt
 inner n l None = (n, l)
 inner n l (Some other) = cond (nat_lt l.from other.1.from) other (n, l)

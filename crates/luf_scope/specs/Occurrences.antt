@@ -3,7 +3,8 @@
 -- before the body of its `local function`, and in the body of its `for` or of its function; up to the end of the
 -- block that holds it, which for the block of `repeat` is the end of its condition (3.3.4).
 --
--- It speaks of any syntax whose words are numbered in order, as the tokens of a source are.
+-- It speaks of any syntax whose words are numbered in order, as the tokens of a source are, where a `:` stands directly
+-- before the name of its method.
 use Rattle.std.specs.Prelude.{ℕ, ◌-◌, Bool, true, false, ◌&&◌, not, Option, Some, None, List, [], ◌∷◌, ◌++◌, map}
 use Rattle.luf_tree.specs.Syntax as syntax
 use Rattle.luf_tree.specs.TokenSyntax as tokens
@@ -30,8 +31,8 @@ abbrev pub are_void : tokens.Statements → Bool
 are_void syntax.no_statements = true
 are_void (syntax.more_statements first rest) = is_void first && are_void rest
 
-abbrev pub locals_of : ℕ → ℕ → List tokens.DeclaredName → List Occurrence
-locals_of from to names = map (λ d. Local d.name d.attribute from to) names
+abbrev pub declared_locals : ℕ → ℕ → List tokens.DeclaredName → List Occurrence
+declared_locals from to names = map (λ d. Local d.name d.attribute from to) names
 
 abbrev pub loop_variables_of : tokens.Span → List ℕ → List Occurrence
 loop_variables_of body names = map (λ name. LoopVariable name body.from body.to) names
@@ -42,7 +43,7 @@ parameters_of body names = map (λ name. Parameter name body.from body.to) names
 abbrev pub loop_of : tokens.Span → Occurrence
 loop_of body = Loop body.from body.to
 
--- `function a.b` reads `a`, and `function a` assigns it
+-- `function a.b` reads `a`, and `function a` assigns it; the grammar gives each path a first name
 abbrev pub path_of : Option ℕ → List ℕ → Option ℕ → List Occurrence
 path_of None fields method = map Field fields
 path_of (Some name) [] None = Assigns name ∷ []
@@ -126,7 +127,7 @@ abbrev mutual
   -- of a statement in this block, and whether only labels and `;` follow it there
   pub occurrences_in_statement : Holder → Bool → tokens.Statement → List Occurrence
   occurrences_in_statement holder ended (syntax.empty_statement span) = []
-  occurrences_in_statement holder ended (syntax.local_statement span names values) = locals_of span.to holder.end names ++ occurrences_in_expressions values
+  occurrences_in_statement holder ended (syntax.local_statement span names values) = declared_locals span.to holder.end names ++ occurrences_in_expressions values
   occurrences_in_statement holder ended (syntax.assignment span targets values) = occurrences_in_targets targets ++ occurrences_in_expressions values
   occurrences_in_statement holder ended (syntax.call_statement span call) = occurrences_in_expression call
   occurrences_in_statement holder ended (syntax.do_statement span body) = occurrences_in_block body

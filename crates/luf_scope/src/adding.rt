@@ -2,7 +2,7 @@
 ghost use Rattle.std.specs.Prelude.{◌≡◌, ◌++◌, ◌∷◌, [], ◌&&◌, not, map, OnOk};
 ghost use Rattle.luf_tree.specs.TokenSyntax.{from_to};
 ghost use Rattle.luf_tree.specs.SyntaxOf.{declared_of, first_of_path, rest_of_path, syntax_of_expr, syntax_of_stat};
-ghost use Rattle.luf_scope.specs.Occurrences.{is_void, locals_of, loop_variables_of, parameters_of, path_of, method_of};
+ghost use Rattle.luf_scope.specs.Occurrences.{is_void, declared_locals, loop_variables_of, parameters_of, path_of, method_of};
 ghost use Rattle.luf_scope.specs.inner.Parts.{plain_variable};
 
 use crate::{Memory, Occurrence};
@@ -22,7 +22,7 @@ pub fn add_locals(
     names: &[Declared],
     into: &mut Vec<Occurrence>,
 ) -> Result<(), Memory>
-    ensures { OnOk result (into.new.items ≡ into.old.items ++ locals_of from to (map declared_of names.now)) }
+    ensures { OnOk result (into.new.items ≡ into.old.items ++ declared_locals from to (map declared_of names.now)) }
 {
     for d in names {
         let one = Occurrence::Local {

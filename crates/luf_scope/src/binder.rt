@@ -11,7 +11,7 @@ pub enum BinderKind {
     Close,
     /// As a parameter.
     Param,
-    /// The parameter `self` of a method.
+    /// As the implicit parameter `self` of a method; an explicit one is `Param`.
     SelfParam,
     /// As a variable of `for`.
     Loop,
@@ -33,7 +33,7 @@ pub struct Binder {
 pub enum Role {
     /// None of the below.
     Plain,
-    /// It declares this local variable.
+    /// It declares this local variable, as the `:` of a method declares the implicit `self`.
     Declares(u32),
     /// It refers to this local variable.
     Refers(u32),

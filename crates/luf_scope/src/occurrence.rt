@@ -35,7 +35,7 @@ pub enum Occurrence {
         from: u32,
         to: u32,
     },
-    /// A name that is used as a variable.
+    /// A variable that is read, also where a field of it is assigned.
     Reads(u32),
     /// A name that is assigned, by an assignment or by `function`.
     Assigns(u32),

@@ -6,7 +6,7 @@ use Rattle.luf_tree.specs.declared.tree.ExprKind.TheViews.{out-Expr, out-Stat, o
 use Rattle.luf_tree.specs.TokenSyntax.{from_to}
 use Rattle.luf_tree.specs.SyntaxOf.{declared_of, first_of_path, rest_of_path, expressions_of, operations_of, suffixes_of, fields_of, statements_of, arms_of, optional_expression_of, optional_block_of, syntax_of_expr, syntax_of_field, syntax_of_suffix, syntax_of_step, syntax_of_stat, syntax_of_arm, syntax_of_block, syntax_of_body, syntax_of_args}
 use Rattle.luf_tree.proofs.SyntaxEquations as eq
-use Rattle.luf_scope.specs.Occurrences.{Holder, span_of, body_of, span_of_body, loop_of, locals_of, loop_variables_of, parameters_of, path_of, method_of, occurrences_in_expression, occurrences_in_optional_expression, occurrences_in_expressions, occurrences_in_targets, occurrences_in_operation, occurrences_in_operations, occurrences_in_suffix, occurrences_in_suffixes, occurrences_in_field, occurrences_in_fields, occurrences_in_statement, occurrences_in_statements, occurrences_in_arm, occurrences_in_arms, occurrences_in_block, occurrences_in_repeated, occurrences_in_optional_block, occurrences_in_body, occurrences_in_arguments}
+use Rattle.luf_scope.specs.Occurrences.{Holder, span_of, body_of, span_of_body, loop_of, declared_locals, loop_variables_of, parameters_of, path_of, method_of, occurrences_in_expression, occurrences_in_optional_expression, occurrences_in_expressions, occurrences_in_targets, occurrences_in_operation, occurrences_in_operations, occurrences_in_suffix, occurrences_in_suffixes, occurrences_in_field, occurrences_in_fields, occurrences_in_statement, occurrences_in_statements, occurrences_in_arm, occurrences_in_arms, occurrences_in_block, occurrences_in_repeated, occurrences_in_optional_block, occurrences_in_body, occurrences_in_arguments}
 use Rattle.luf_scope.specs.declared.occurrence.Occurrence.{Occurrence}
 use Rattle.luf_scope.specs.declared.occurrence.Occurrence.TheVariants.{LocalFunction, Function, Loop, Field}
 use Rattle.luf_scope.specs.inner.Parts.{held_by, is_solid}
@@ -93,7 +93,7 @@ pub of_field-returns-in_ok-of_expr-in-Keyed : goal.of_field-returns-in_ok-of_exp
 of_field-returns-in_ok-of_expr-in-Keyed t c = whole _ _ _ _ _ (ap (λ f. occurrences_in_field (syntax_of_field f)) c.in-Keyed.is ∙ ap occurrences_in_field (eq.keyed_syntax c.in-Keyed.key c.in-Keyed.value)) (then _ _ _ _ _ _ (lent_on (λ x. occurrences_in_expression (syntax_of_expr x)) c.in-Keyed.key _ _ _ c.get.ensures c.in_ok-of_expr-in-Keyed.ensures) c.of_expr-in-Keyed-2.ensures)
 
 pub of_stat-returns-in_ok-add_locals-in-Local : goal.of_stat-returns-in_ok-add_locals-in-Local
-of_stat-returns-in_ok-add_locals-in-Local t c = whole _ _ _ _ _ (ap (occurrences_in_statement (held_by c.args.holder) c.args.ended) (stat_read c.args.s.now _ c.in-Local.is ∙ eq.local_syntax _ _ c.in-Local.names c.in-Local.values)) (then _ _ _ _ _ _ (lent_on (λ ns. locals_of (out-Stat c.args.s.now).to c.args.holder.end (map declared_of ns)) c.in-Local.names _ _ _ c.as_slice.ensures c.in_ok-add_locals-in-Local.ensures) (lent (λ xs. occurrences_in_expressions (expressions_of (map syntax_of_expr xs))) c.in-Local.values _ _ _ _ c.as_slice-in-Local.ensures c.of_exprs.ensures))
+of_stat-returns-in_ok-add_locals-in-Local t c = whole _ _ _ _ _ (ap (occurrences_in_statement (held_by c.args.holder) c.args.ended) (stat_read c.args.s.now _ c.in-Local.is ∙ eq.local_syntax _ _ c.in-Local.names c.in-Local.values)) (then _ _ _ _ _ _ (lent_on (λ ns. declared_locals (out-Stat c.args.s.now).to c.args.holder.end (map declared_of ns)) c.in-Local.names _ _ _ c.as_slice.ensures c.in_ok-add_locals-in-Local.ensures) (lent (λ xs. occurrences_in_expressions (expressions_of (map syntax_of_expr xs))) c.in-Local.values _ _ _ _ c.as_slice-in-Local.ensures c.of_exprs.ensures))
 
 pub of_stat-returns-in_ok-of_targets-in-Assign : goal.of_stat-returns-in_ok-of_targets-in-Assign
 of_stat-returns-in_ok-of_targets-in-Assign t c = whole _ _ _ _ _ (ap (occurrences_in_statement (held_by c.args.holder) c.args.ended) (stat_read c.args.s.now _ c.in-Assign.is ∙ eq.assign_syntax _ _ c.in-Assign.targets c.in-Assign.values)) (then _ _ _ _ _ _ (lent_on (λ xs. occurrences_in_targets (expressions_of (map syntax_of_expr xs))) c.in-Assign.targets _ _ _ c.as_slice-in-Assign.ensures c.in_ok-of_targets-in-Assign.ensures) (lent (λ xs. occurrences_in_expressions (expressions_of (map syntax_of_expr xs))) c.in-Assign.values _ _ _ _ c.as_slice-in-Assign-2.ensures c.of_exprs-in-Assign.ensures))
