@@ -1,0 +1,13 @@
+//! The chunk of a function: the bytes that Lua 5.4 writes of it without what only debugging reads.
+#![tactic(auto)]
+
+mod chunk;
+mod constant;
+mod error;
+mod field;
+#[cfg(test)]
+mod tests;
+
+pub use chunk::write_chunk;
+pub use error::ChunkErr;
+pub use luf_memory::Memory;
