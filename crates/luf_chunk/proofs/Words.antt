@@ -3,10 +3,10 @@ use Rattle.std.proofs.Common.{Bool, Option, None, Some, Result, Ok, Err, ◌≡�
 use Rattle.std.specs.Prelude.{IfErr, OnErr, OnOk}
 use Rattle.std.specs.List.{flat_map, AllByRecursion}
 use Rattle.std.proofs.lemmas.List.Concat.{flat_map-append, flat_map-cons}
-use Rattle.luf_chunk.specs.Worded.{AreWorded, AreWordedConstants, HasNoWord, HasWord, IsFirstWithout, IsWorded, IsWordedConstant, all_floats, constant_floats, floats_of}
+use Rattle.luf_chunk.specs.Worded.{HasCause, AreWorded, AreWordedConstants, HasNoWord, HasWord, IsFirstWithout, IsWorded, IsWordedConstant, all_floats, constant_floats, floats_of}
 use Rattle.luf_chunk.specs.declared.error.ChunkErr.{ChunkErr}
 use Rattle.luf_chunk.specs.declared.error.ChunkErr.TheVariants.{FloatReach, Memory}
-use Rattle.luf_chunk.specs.inner.Written.{HasCause, IsNotSpelled, WritesConstant, WritesConstantList, WritesFloat, WritesConstants, WritesFunction, WritesFunctions, WritesList, AreWordedList}
+use Rattle.luf_chunk.specs.inner.Written.{IsNotSpelled, WritesConstant, WritesConstantList, WritesFloat, WritesConstants, WritesFunction, WritesFunctions, WritesList, AreWordedList}
 use Rattle.luf_proto.specs.Chunk.{chunk_bytes, constant_bytes, head_bytes, header, list_bytes, no_debug, size, upvalue_bytes, upvalue_count, word_bytes, count_of, function_bytes, functions_bytes}
 use Rattle.luf_proto.specs.Function.{Function, Functions, function, more_functions, no_functions}
 use Rattle.luf_proto.specs.FunctionOf.{function_of, functions_of}

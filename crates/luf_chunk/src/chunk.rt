@@ -1,7 +1,7 @@
 //! Functions and the chunk.
 ghost use Rattle.std.specs.Prelude.{◌≡◌, ◌++◌, ◌∷◌, [], map, length, take, OnOk, OnErr, IfErr};
-ghost use Rattle.luf_chunk.specs.Worded.{IsWorded, IsFirstWithout, all_floats, floats_of};
-ghost use Rattle.luf_chunk.specs.inner.Written.{HasCause, WritesFunction, WritesFunctions};
+ghost use Rattle.luf_chunk.specs.Worded.{HasCause, IsWorded, all_floats, floats_of};
+ghost use Rattle.luf_chunk.specs.inner.Written.{WritesFunction, WritesFunctions};
 ghost use Rattle.luf_proto.specs.Chunk.{Fits, chunk_bytes, head_bytes, header, no_debug};
 ghost use Rattle.luf_proto.specs.Function.{Function};
 ghost use Rattle.luf_proto.specs.declared.proto.Proto.{out-Proto};

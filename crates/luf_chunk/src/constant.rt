@@ -1,8 +1,8 @@
 //! Constants as bytes, with the word of each float.
 ghost use Rattle.std.specs.Prelude.{◌≡◌, [], ◌∷◌, ◌++◌, length, take, OnOk, OnErr, IfErr, MatchOption};
 ghost use Rattle.std.specs.Int.{w64, to_le_bytes};
-ghost use Rattle.luf_chunk.specs.Worded.{constant_floats};
-ghost use Rattle.luf_chunk.specs.inner.Written.{HasCause, IsNotSpelled, WritesConstant, WritesConstantList, WritesConstants, WritesFloat};
+ghost use Rattle.luf_chunk.specs.Worded.{HasCause, constant_floats};
+ghost use Rattle.luf_chunk.specs.inner.Written.{IsNotSpelled, WritesConstant, WritesConstantList, WritesConstants, WritesFloat};
 ghost use Rattle.luf_proto.specs.Chunk.{constant_bytes, string};
 ghost use Rattle.luf_proto.specs.declared.proto.Const.TheVariants.{Spelled};
 

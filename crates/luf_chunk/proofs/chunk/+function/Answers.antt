@@ -3,8 +3,8 @@ use Rattle.std.proofs.Common.{◌≡◌, ◌∙◌, sym, ap, subst, map, take, a
 use Rattle.luf_proto.specs.Chunk.{functions_bytes}
 use Rattle.luf_proto.specs.FunctionOf.{function_of, functions_of}
 use Rattle.luf_proto.specs.declared.proto.Proto.{out-Proto}
-use Rattle.luf_chunk.specs.Worded.{all_floats, floats_of}
-use Rattle.luf_chunk.specs.inner.Written.{HasCause, WritesFunction}
+use Rattle.luf_chunk.specs.Worded.{HasCause, all_floats, floats_of}
+use Rattle.luf_chunk.specs.inner.Written.{WritesFunction}
 use Rattle.luf_chunk.proofs.Kept.{kept_behind, on_err, passed}
 use Rattle.luf_chunk.proofs.Words.{constants_first, count_of-functions_of, functions_last, kept_five, length_map, lent_parts, parts_written, subs_cause, subs_done, subs_more}
 use Rattle.luf_chunk.proofs.chunk.+function.Goals as goal

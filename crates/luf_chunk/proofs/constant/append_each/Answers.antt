@@ -1,8 +1,7 @@
 -- One constant more.
 use Rattle.std.proofs.Common.{add-one}
 use Rattle.std.specs.List.{flat_map}
-use Rattle.luf_chunk.specs.Worded.{constant_floats}
-use Rattle.luf_chunk.specs.inner.Written.{HasCause}
+use Rattle.luf_chunk.specs.Worded.{HasCause, constant_floats}
 use Rattle.luf_proto.specs.Chunk.{constant_bytes}
 use Rattle.luf_chunk.proofs.Kept.{kept_behind, on_err, passed}
 use Rattle.luf_chunk.proofs.Words.{constants_cause, constants_more}
