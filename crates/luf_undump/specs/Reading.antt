@@ -10,6 +10,7 @@ use Rattle.luf_proto.specs.FunctionOf.{functions_of}
 use Rattle.luf_proto.specs.declared.proto.Const.{Const}
 use Rattle.luf_proto.specs.declared.proto.Const.TheVariants as const
 use Rattle.luf_proto.specs.declared.proto.Upval.{Upval}
+use Rattle.luf_undump.specs.declared.function.Head.{Head}
 use Rattle.luf_undump.specs.declared.error.ChunkWhat.{ChunkWhat}
 use Rattle.luf_undump.specs.declared.error.ChunkWhat.TheVariants.{BadHeader, Short, BadSize, BadTag, Nested, Trailing}
 
@@ -33,11 +34,17 @@ unfoldable pub byte_at : List ℕ → Result (ℕ × List ℕ) Wrong
 byte_at [] = wrong [] Short
 byte_at (byte ∷ rest) = Ok (byte, rest)
 
+-- a byte that must be this one
+unfoldable pub fixed_byte_at : ℕ → List ℕ → Result (List ℕ) Wrong
+fixed_byte_at wanted [] = wrong [] Short
+fixed_byte_at wanted (byte ∷ rest) = if byte == wanted then Ok rest else wrong (byte ∷ rest) BadHeader
+
 -- bytes that must be these
 unfoldable pub fixed_at : List ℕ → List ℕ → Result (List ℕ) Wrong
 fixed_at [] bytes = Ok bytes
-fixed_at (b ∷ bs) [] = wrong [] Short
-fixed_at (b ∷ bs) (byte ∷ rest) = if byte == b then fixed_at bs rest else wrong (byte ∷ rest) BadHeader
+fixed_at (wanted ∷ others) bytes = do
+  rest ← fixed_byte_at wanted bytes
+  fixed_at others rest
 
 -- a group of 7 bits that is not the last of its size
 abbrev pub is_group : ℕ → Bool
@@ -95,11 +102,16 @@ debug_string_at bytes = do
   s ← run_at (n.0 - 1) n.1
   Ok s.1
 
+-- a short string has this length, or a long one
+abbrev pub has_length : Bool → ℕ → Bool
+has_length true len = nat_le len most_short
+has_length false len = nat_lt most_short len
+
 -- the string of a constant, short or long
 unfoldable pub constant_string_at : Bool → List ℕ → Result (Const × List ℕ) Wrong
 constant_string_at short bytes = do
   n ← size_at bytes
-  s ← if n.0 == 0 then wrong bytes BadSize else if nat_le (n.0 - 1) most_short == short then run_at (n.0 - 1) n.1 else wrong bytes BadSize
+  s ← if n.0 == 0 then wrong bytes BadSize else if has_length short (n.0 - 1) then run_at (n.0 - 1) n.1 else wrong bytes BadSize
   Ok (const.Str s.0, s.1)
 
 -- what stands behind the tag of a constant
@@ -188,13 +200,6 @@ debug_at bytes = do
 -- ---- functions
 
 -- what a function begins with
-pub record Head : Type 0 where
-  pub line_from : ℕ
-  pub line_to : ℕ
-  pub parameters : ℕ
-  pub vararg : Bool
-  pub registers : ℕ
-
 unfoldable pub head_at : List ℕ → Result (Head × List ℕ) Wrong
 head_at bytes = do
   source ← debug_string_at bytes

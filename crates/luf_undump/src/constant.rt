@@ -1,6 +1,6 @@
 //! Constants.
 ghost use Rattle.std.specs.Prelude.{◌≡◌};
-ghost use Rattle.luf_undump.specs.Reading.{constant_at, constant_string_at, many_at, tagged_at};
+ghost use Rattle.luf_undump.specs.Reading.{constant_at, constant_string_at, has_length, many_at, tagged_at};
 ghost use Rattle.luf_undump.specs.inner.Gives.{Gives};
 
 use crate::error::{ChunkWhat, Stop};
@@ -13,6 +13,13 @@ use std::alloc::Global;
 /// The longest string of the tag of short ones (LUAI_MAXSHORTLEN of llimits.h).
 const MOST_SHORT: u64 = 40;
 
+/// Whether a short string has this length, or a long one.
+fn has_length(short: bool, len: u64) -> bool
+    ensures { result ≡ has_length short len }
+{
+    if short { len <= MOST_SHORT } else { MOST_SHORT < len }
+}
+
 /// The string of a constant, short or long.
 #[tactic(auto, unfolding(crate::specs::Reading::constant_string_at))]
 fn constant_string(alloc: Global, short: bool, bytes: &[u8]) -> Result<(Const, &[u8]), Stop>
@@ -22,11 +29,12 @@ fn constant_string(alloc: Global, short: bool, bytes: &[u8]) -> Result<(Const, &
     if n == 0 {
         return Err(Stop::Bad { left: bytes.len(), what: ChunkWhat::BadSize });
     }
-    if (n - 1 <= MOST_SHORT) != short {
+    if !has_length(short, n - 1) {
         return Err(Stop::Bad { left: bytes.len(), what: ChunkWhat::BadSize });
     }
     let (s, rest) = run(n - 1, rest)?;
-    Ok((Const::Str(Bytes::copy(alloc, s)?), rest))
+    let s = Bytes::copy(alloc, s)?;
+    Ok((Const::Str(s), rest))
 }
 
 /// What stands behind the tag of a constant, which begins the bytes.

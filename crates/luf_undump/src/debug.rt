@@ -40,7 +40,8 @@ fn lines(count: u32, bytes: &[u8]) -> Result<&[u8], Stop>
 {
     let mut rest = bytes;
     for _ in 0..count {
-        rest = line(rest)?;
+        let after = line(rest)?;
+        rest = after;
     }
     Ok(rest)
 }
@@ -50,7 +51,8 @@ fn locals(count: u32, bytes: &[u8]) -> Result<&[u8], Stop>
 {
     let mut rest = bytes;
     for _ in 0..count {
-        rest = local(rest)?;
+        let after = local(rest)?;
+        rest = after;
     }
     Ok(rest)
 }
@@ -60,7 +62,8 @@ fn names(count: u32, bytes: &[u8]) -> Result<&[u8], Stop>
 {
     let mut rest = bytes;
     for _ in 0..count {
-        rest = debug_string(rest)?;
+        let after = debug_string(rest)?;
+        rest = after;
     }
     Ok(rest)
 }

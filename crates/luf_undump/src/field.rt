@@ -1,6 +1,6 @@
 //! Single fields.
 ghost use Rattle.std.specs.Prelude.{◌≡◌};
-ghost use Rattle.luf_undump.specs.Reading.{byte_at, fixed_at, flag_at, number_at, run_at, word_at, many_at};
+ghost use Rattle.luf_undump.specs.Reading.{byte_at, fixed_at, fixed_byte_at, flag_at, number_at, run_at, word_at, many_at};
 ghost use Rattle.luf_undump.specs.inner.Gives.{Gives};
 
 use crate::error::{ChunkWhat, Stop};
@@ -81,17 +81,29 @@ pub fn words(alloc: Global, count: u32, bytes: &[u8]) -> Result<(Vec<u32>, &[u8]
     Ok((words, rest))
 }
 
+/// A byte that must be this one.
+#[tactic(auto, unfolding(crate::specs::Reading::fixed_byte_at))]
+fn fixed_byte(wanted: u8, bytes: &[u8]) -> Result<&[u8], Stop>
+    ensures { Gives (λ x. x.now) result (fixed_byte_at wanted bytes.now) }
+{
+    let [byte, rest @ ..] = bytes else {
+        return Err(Stop::Bad { left: 0, what: ChunkWhat::Short });
+    };
+    if *byte == wanted {
+        Ok(rest)
+    } else {
+        Err(Stop::Bad { left: bytes.len(), what: ChunkWhat::BadHeader })
+    }
+}
+
 /// Bytes that must be these.
 pub fn fixed<'a>(wanted: &[u8], bytes: &'a [u8]) -> Result<&'a [u8], Stop>
     ensures { Gives (λ x. x.now) result (fixed_at wanted.now bytes.now) }
 {
     let mut rest = bytes;
     for want in wanted {
-        match rest {
-            [byte, after @ ..] if byte == want => rest = after,
-            [_, ..] => return Err(Stop::Bad { left: rest.len(), what: ChunkWhat::BadHeader }),
-            [] => return Err(Stop::Bad { left: 0, what: ChunkWhat::Short }),
-        }
+        let after = fixed_byte(*want, rest)?;
+        rest = after;
     }
     Ok(rest)
 }

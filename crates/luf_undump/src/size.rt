@@ -10,14 +10,15 @@ use crate::error::{ChunkWhat, Stop};
 fn groups_value(groups: &[u8]) -> Option<u64>
     ensures { MatchOption result (2 ^ 57 ≤ value_of_groups groups.now) (λ n. (n ≡ value_of_groups groups.now) × (n < 2 ^ 57)) }
 {
-    let mut value = 0u64;
+    // A byte more than the number has room for.
+    let mut value = 0u128;
     for group in groups {
-        value = value * 128 + u64::from(*group);
+        value = value * 128 + u128::from(*group);
         if value >= 1 << 57 {
             return None;
         }
     }
-    Some(value)
+    Some(value as u64)
 }
 
 /// A size whose groups but the last are these.
