@@ -88,7 +88,8 @@ fn spelling_of(constant: &Const) -> Option<&[u8]>
 {
     match constant {
         Const::Spelled(spelling) => Some(spelling.as_slice()),
-        Const::Nil | Const::False | Const::True | Const::Int(_) | Const::Word(_) | Const::Str(_) => None,
+        Const::Nil | Const::False | Const::True | Const::Int(_) | Const::Word(_) | Const::Str(_) =>
+            None,
     }
 }
 
@@ -120,7 +121,11 @@ fn append_each(alloc: Global, constants: &[Const], into: &mut Vec<u8>) -> Result
 }
 
 /// Appends constants, and how many there are.
-pub fn append_constants(alloc: Global, constants: &[Const], into: &mut Vec<u8>) -> Result<(), ChunkErr>
+pub fn append_constants(
+    alloc: Global,
+    constants: &[Const],
+    into: &mut Vec<u8>,
+) -> Result<(), ChunkErr>
     ensures ok { OnOk result (WritesConstantList constants.now into.old.items into.new.items) }
     ensures err { OnErr result (take (length into.old.items) into.new.items ≡ into.old.items) }
     ensures cause { IfErr result (λ e. HasCause e (constant_floats constants.now)) }

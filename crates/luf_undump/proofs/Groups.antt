@@ -14,5 +14,5 @@ pub value_take_le : (groups : List ℕ) (n : ℕ) → value_of_groups (take n gr
 value_take_le groups n =
     let step = λ (value group : ℕ). value * 128 + group in
     let whole : value_of_groups groups ≡ fold step (value_of_groups (take n groups)) (drop n groups) =
-      ap value_of_groups (sym (take-append-drop n groups)) ∙ fold-append step 0 (take n groups) (drop n groups) in
+    ap value_of_groups (sym (take-append-drop n groups)) ∙ fold-append step 0 (take n groups) (drop n groups) in
     rw whole (value_grows (drop n groups) (value_of_groups (take n groups)))

@@ -21,7 +21,7 @@ module _ {A : Type 0} (item_at : List ℕ → Result (A × List ℕ) Wrong) wher
   goes_on front count i bytes x after total lt h so_far =
       let k : count - i ≡ suc (count - (i + 1)) = omega arith in
       let one : with_front front (many_at item_at (count - i) bytes) ≡ with_front (front ++ x ∷ []) (many_at item_at (count - (i + 1)) after) =
-        rw (k, h) (regroup front x (many_at item_at (count - (i + 1)) after)) in
+      rw (k, h) (regroup front x (many_at item_at (count - (i + 1)) after)) in
       sym one ∙ so_far
 
   pub ends : (e : Stop) (front : List A) (count i : ℕ) (bytes : List ℕ) (total : Result (List A × List ℕ) Wrong) → i < count → Fails e (item_at bytes)

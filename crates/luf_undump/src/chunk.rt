@@ -13,8 +13,8 @@ use std::alloc::Global;
 
 /// What a chunk begins with.
 const HEADER: [u8; 31] = [
-    0x1b, b'L', b'u', b'a', 0x54, 0x00, 0x19, 0x93, 0x0d, 0x0a, 0x1a, 0x0a, 0x04, 0x08, 0x08, 0x78, 0x56, 0x00, 0x00, 0x00, 0x00,
-    0x00, 0x00, 0x00, 0x00, 0x00, 0x00, 0x00, 0x28, 0x77, 0x40,
+    0x1b, b'L', b'u', b'a', 0x54, 0x00, 0x19, 0x93, 0x0d, 0x0a, 0x1a, 0x0a, 0x04, 0x08, 0x08, 0x78,
+    0x56, 0x00, 0x00, 0x00, 0x00, 0x00, 0x00, 0x00, 0x00, 0x00, 0x00, 0x00, 0x28, 0x77, 0x40,
 ];
 
 /// How deep functions may be nested, main being the first level.
@@ -30,7 +30,10 @@ fn chunk(alloc: Global, bytes: &[u8]) -> Result<Proto, Stop>
     if rest.is_empty() {
         Ok(main)
     } else {
-        Err(Stop::Bad { left: rest.len(), what: ChunkWhat::Trailing })
+        Err(Stop::Bad {
+            left: rest.len(),
+            what: ChunkWhat::Trailing,
+        })
     }
 }
 
@@ -44,7 +47,10 @@ pub fn read_chunk(alloc: Global, bytes: &[u8]) -> Result<Proto, UndumpErr>
 {
     match chunk(alloc, bytes) {
         Ok(p) => Ok(p),
-        Err(Stop::Bad { left, what }) => Err(UndumpErr::Bad { at: bytes.len().saturating_sub(left) as u32, what }),
+        Err(Stop::Bad { left, what }) => Err(UndumpErr::Bad {
+            at: bytes.len().saturating_sub(left) as u32,
+            what,
+        }),
         Err(Stop::Memory) => Err(UndumpErr::Memory),
     }
 }

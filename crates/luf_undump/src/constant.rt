@@ -17,7 +17,11 @@ const MOST_SHORT: u64 = 40;
 fn has_length(short: bool, len: u64) -> bool
     ensures { result ≡ has_length short len }
 {
-    if short { len <= MOST_SHORT } else { MOST_SHORT < len }
+    if short {
+        len <= MOST_SHORT
+    } else {
+        MOST_SHORT < len
+    }
 }
 
 /// The string of a constant, short or long.
@@ -27,10 +31,16 @@ fn constant_string(alloc: Global, short: bool, bytes: &[u8]) -> Result<(Const, &
 {
     let (n, rest) = size(bytes)?;
     if n == 0 {
-        return Err(Stop::Bad { left: bytes.len(), what: ChunkWhat::BadSize });
+        return Err(Stop::Bad {
+            left: bytes.len(),
+            what: ChunkWhat::BadSize,
+        });
     }
     if !has_length(short, n - 1) {
-        return Err(Stop::Bad { left: bytes.len(), what: ChunkWhat::BadSize });
+        return Err(Stop::Bad {
+            left: bytes.len(),
+            what: ChunkWhat::BadSize,
+        });
     }
     let (s, rest) = run(n - 1, rest)?;
     let s = Bytes::copy(alloc, s)?;
@@ -39,7 +49,12 @@ fn constant_string(alloc: Global, short: bool, bytes: &[u8]) -> Result<(Const, &
 
 /// What stands behind the tag of a constant, which begins the bytes.
 #[tactic(auto, unfolding(crate::specs::Reading::tagged_at))]
-fn tagged<'a>(alloc: Global, bytes: &'a [u8], tag: u8, rest: &'a [u8]) -> Result<(Const, &'a [u8]), Stop>
+fn tagged<'a>(
+    alloc: Global,
+    bytes: &'a [u8],
+    tag: u8,
+    rest: &'a [u8],
+) -> Result<(Const, &'a [u8]), Stop>
     ensures { Gives (λ x. (x.0, x.1.now)) result (tagged_at bytes.now tag rest.now) }
 {
     if tag == 0 {
@@ -59,7 +74,10 @@ fn tagged<'a>(alloc: Global, bytes: &'a [u8], tag: u8, rest: &'a [u8]) -> Result
     } else if tag == 20 {
         constant_string(alloc, false, rest)
     } else {
-        Err(Stop::Bad { left: bytes.len(), what: ChunkWhat::BadTag })
+        Err(Stop::Bad {
+            left: bytes.len(),
+            what: ChunkWhat::BadTag,
+        })
     }
 }
 

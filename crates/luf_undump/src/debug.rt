@@ -76,7 +76,10 @@ fn distances(bytes: &[u8]) -> Result<&[u8], Stop>
     let (n, rest) = count(bytes)?;
     let n = n as usize;
     if rest.len() < n {
-        return Err(Stop::Bad { left: 0, what: ChunkWhat::Short });
+        return Err(Stop::Bad {
+            left: 0,
+            what: ChunkWhat::Short,
+        });
     }
     let (_, rest) = rest.split_at(n);
     Ok(rest)

@@ -12,7 +12,10 @@ pub fn byte(bytes: &[u8]) -> Result<(u8, &[u8]), Stop>
 {
     match bytes {
         [byte, rest @ ..] => Ok((*byte, rest)),
-        [] => Err(Stop::Bad { left: 0, what: ChunkWhat::Short }),
+        [] => Err(Stop::Bad {
+            left: 0,
+            what: ChunkWhat::Short,
+        }),
     }
 }
 
@@ -27,7 +30,10 @@ pub fn flag(bytes: &[u8]) -> Result<(bool, &[u8]), Stop>
     } else if b == 1 {
         Ok((true, rest))
     } else {
-        Err(Stop::Bad { left: bytes.len(), what: ChunkWhat::BadTag })
+        Err(Stop::Bad {
+            left: bytes.len(),
+            what: ChunkWhat::BadTag,
+        })
     }
 }
 
@@ -37,7 +43,10 @@ pub fn run(len: u64, bytes: &[u8]) -> Result<(&[u8], &[u8]), Stop>
     ensures { Gives (λ x. (x.0.now, x.1.now)) result (run_at len bytes.now) }
 {
     if (bytes.len() as u64) < len {
-        return Err(Stop::Bad { left: bytes.len(), what: ChunkWhat::Short });
+        return Err(Stop::Bad {
+            left: bytes.len(),
+            what: ChunkWhat::Short,
+        });
     }
     Ok(bytes.split_at(len as usize))
 }
@@ -47,10 +56,16 @@ fn word(bytes: &[u8]) -> Result<(u32, &[u8]), Stop>
     ensures { Gives (λ x. (x.0, x.1.now)) result (word_at bytes.now) }
 {
     if bytes.len() < 4 {
-        return Err(Stop::Bad { left: bytes.len(), what: ChunkWhat::Short });
+        return Err(Stop::Bad {
+            left: bytes.len(),
+            what: ChunkWhat::Short,
+        });
     }
     let (front, rest) = bytes.split_at(4);
-    Ok((u32::from_le_bytes([front[0], front[1], front[2], front[3]]), rest))
+    Ok((
+        u32::from_le_bytes([front[0], front[1], front[2], front[3]]),
+        rest,
+    ))
 }
 
 #[tactic(auto, unfolding(crate::specs::Reading::number_at))]
@@ -58,7 +73,10 @@ pub fn number(bytes: &[u8]) -> Result<(u64, &[u8]), Stop>
     ensures { Gives (λ x. (x.0, x.1.now)) result (number_at bytes.now) }
 {
     if bytes.len() < 8 {
-        return Err(Stop::Bad { left: bytes.len(), what: ChunkWhat::Short });
+        return Err(Stop::Bad {
+            left: bytes.len(),
+            what: ChunkWhat::Short,
+        });
     }
     let (front, rest) = bytes.split_at(8);
     let number = u64::from_le_bytes([
@@ -87,12 +105,18 @@ fn fixed_byte(wanted: u8, bytes: &[u8]) -> Result<&[u8], Stop>
     ensures { Gives (λ x. x.now) result (fixed_byte_at wanted bytes.now) }
 {
     let [byte, rest @ ..] = bytes else {
-        return Err(Stop::Bad { left: 0, what: ChunkWhat::Short });
+        return Err(Stop::Bad {
+            left: 0,
+            what: ChunkWhat::Short,
+        });
     };
     if *byte == wanted {
         Ok(rest)
     } else {
-        Err(Stop::Bad { left: bytes.len(), what: ChunkWhat::BadHeader })
+        Err(Stop::Bad {
+            left: bytes.len(),
+            what: ChunkWhat::BadHeader,
+        })
     }
 }
 

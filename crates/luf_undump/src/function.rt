@@ -34,17 +34,34 @@ fn read_head(bytes: &[u8]) -> Result<(Head, &[u8]), Stop>
     let (parameters, rest) = byte(rest)?;
     let (vararg, rest) = flag(rest)?;
     let (registers, rest) = byte(rest)?;
-    Ok((Head { line_from, line_to, parameters, vararg, registers }, rest))
+    Ok((
+        Head {
+            line_from,
+            line_to,
+            parameters,
+            vararg,
+            registers,
+        },
+        rest,
+    ))
 }
 
 /// A function within so many levels.
 #[cycle(function)]
 #[tactic(auto, unfolding(crate::specs::Reading::function_at))]
-pub fn function(alloc: Global, levels: u32, main: Option<u8>, bytes: &[u8]) -> Result<(Proto, &[u8]), Stop>
+pub fn function(
+    alloc: Global,
+    levels: u32,
+    main: Option<u8>,
+    bytes: &[u8],
+) -> Result<(Proto, &[u8]), Stop>
     ensures { Gives (λ x. (function_of x.0, x.1.now)) result (function_at levels main bytes.now) }
 {
     if levels == 0 {
-        return Err(Stop::Bad { left: bytes.len(), what: ChunkWhat::Nested });
+        return Err(Stop::Bad {
+            left: bytes.len(),
+            what: ChunkWhat::Nested,
+        });
     }
     let (head, rest) = read_head(bytes)?;
     let (n, rest) = count(rest)?;
@@ -72,7 +89,12 @@ pub fn function(alloc: Global, levels: u32, main: Option<u8>, bytes: &[u8]) -> R
 
 /// So many functions within so many levels.
 #[cycle(function)]
-fn functions(alloc: Global, levels: u32, count: u32, bytes: &[u8]) -> Result<(Vec<Proto>, &[u8]), Stop>
+fn functions(
+    alloc: Global,
+    levels: u32,
+    count: u32,
+    bytes: &[u8],
+) -> Result<(Vec<Proto>, &[u8]), Stop>
     ensures { Gives (λ x. (map function_of x.0.items, x.1.now)) result (many_at (function_at levels None) count bytes.now) }
 {
     let mut subs = Vec::new(alloc);

@@ -27,14 +27,23 @@ fn last_group<'a>(bytes: &'a [u8], groups: &[u8], rest: &'a [u8]) -> Result<(u64
     ensures { Gives (λ x. (x.0, x.1.now)) result (last_group_at bytes.now groups.now rest.now) }
 {
     let [last, rest @ ..] = rest else {
-        return Err(Stop::Bad { left: bytes.len(), what: ChunkWhat::Short });
+        return Err(Stop::Bad {
+            left: bytes.len(),
+            what: ChunkWhat::Short,
+        });
     };
     if let [0, ..] = groups {
-        return Err(Stop::Bad { left: bytes.len(), what: ChunkWhat::BadSize });
+        return Err(Stop::Bad {
+            left: bytes.len(),
+            what: ChunkWhat::BadSize,
+        });
     }
     match groups_value(groups) {
         Some(value) => Ok((value * 128 + u64::from(*last % 128), rest)),
-        None => Err(Stop::Bad { left: bytes.len(), what: ChunkWhat::BadSize }),
+        None => Err(Stop::Bad {
+            left: bytes.len(),
+            what: ChunkWhat::BadSize,
+        }),
     }
 }
 
@@ -65,6 +74,9 @@ pub fn count(bytes: &[u8]) -> Result<(u32, &[u8]), Stop>
     if n < 1 << 31 {
         Ok((n as u32, rest))
     } else {
-        Err(Stop::Bad { left: bytes.len(), what: ChunkWhat::BadSize })
+        Err(Stop::Bad {
+            left: bytes.len(),
+            what: ChunkWhat::BadSize,
+        })
     }
 }

@@ -18,7 +18,10 @@ fn kind(bytes: &[u8]) -> Result<(u8, &[u8]), Stop>
     if kind <= 3 {
         Ok((kind, rest))
     } else {
-        Err(Stop::Bad { left: bytes.len(), what: ChunkWhat::BadTag })
+        Err(Stop::Bad {
+            left: bytes.len(),
+            what: ChunkWhat::BadTag,
+        })
     }
 }
 
@@ -45,7 +48,10 @@ pub fn upvalue_count(main: Option<u8>, bytes: &[u8]) -> Result<(u32, &[u8]), Sto
     if fits {
         Ok((n, rest))
     } else {
-        Err(Stop::Bad { left: bytes.len(), what: ChunkWhat::BadSize })
+        Err(Stop::Bad {
+            left: bytes.len(),
+            what: ChunkWhat::BadSize,
+        })
     }
 }
 

@@ -8,7 +8,7 @@ pub returns-in_err-after : goal.returns-in_err-after
 returns-in_err-after c =
     let p = err_from_is_err_and c.from_residual.result c.from_residual.ensures.1 in
     rw (p.1, p.2) (skip_ends debug_string_at c.in_err-after.field-0.0 c.args.count c.loop.counter c.loop.rest.now (skip_at debug_string_at c.args.count c.args.bytes.now)
-      c.loop-test.true c.in_err-after.ensures c.loop.invariant)
+    c.loop-test.true c.in_err-after.ensures c.loop.invariant)
 
 pub loop-preserved : goal.loop-preserved
 loop-preserved c =
