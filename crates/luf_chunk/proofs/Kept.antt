@@ -21,7 +21,7 @@ kept_through old mid new kept kept_mid =
     let mid_is : mid ≡ old ++ drop (length old) mid = sym (take-append-drop (length old) mid) ∙ ap (λ t. t ++ drop (length old) mid) kept in
     let new_is : new ≡ mid ++ drop (length mid) new = sym (take-append-drop (length mid) new) ∙ ap (λ t. t ++ drop (length mid) new) kept_mid in
     kept_front old new (drop (length old) mid ++ drop (length mid) new)
-      (new_is ∙ ap (λ t. t ++ drop (length mid) new) mid_is ∙ append_assoc old (drop (length old) mid) (drop (length mid) new))
+    (new_is ∙ ap (λ t. t ++ drop (length mid) new) mid_is ∙ append_assoc old (drop (length old) mid) (drop (length mid) new))
 
 pub kept_more : (old mid new more : List ℕ) → take (length old) mid ≡ old → new ≡ mid ++ more → take (length old) new ≡ old
 kept_more old mid new more kept is = kept_through old mid new kept (kept_front mid new more is)

@@ -3,10 +3,10 @@ use Rattle.std.proofs.Common.{Bool, Option, None, Some, Result, Ok, Err, ◌≡�
 use Rattle.std.specs.Prelude.{IfErr, OnErr, OnOk}
 use Rattle.std.specs.List.{flat_map, AllByRecursion}
 use Rattle.std.proofs.lemmas.List.Concat.{flat_map-append, flat_map-cons}
-use Rattle.luf_chunk.specs.Worded.{AreWorded, AreWordedConstants, HasNoWord, HasWord, IsFirstWithout, IsWorded, IsWordedConstant, all_floats, constant_floats, floats_of}
+use Rattle.luf_chunk.specs.Worded.{HasCause, AreWorded, AreWordedConstants, HasNoWord, HasWord, IsFirstWithout, IsWorded, IsWordedConstant, all_floats, constant_floats, floats_of}
 use Rattle.luf_chunk.specs.declared.error.ChunkErr.{ChunkErr}
 use Rattle.luf_chunk.specs.declared.error.ChunkErr.TheVariants.{FloatReach, Memory}
-use Rattle.luf_chunk.specs.inner.Written.{HasCause, IsNotSpelled, WritesConstant, WritesConstantList, WritesFloat, WritesConstants, WritesFunction, WritesFunctions, WritesList, AreWordedList}
+use Rattle.luf_chunk.specs.inner.Written.{IsNotSpelled, WritesConstant, WritesConstantList, WritesFloat, WritesConstants, WritesFunction, WritesFunctions, WritesList, AreWordedList}
 use Rattle.luf_proto.specs.Chunk.{chunk_bytes, constant_bytes, head_bytes, header, list_bytes, no_debug, size, upvalue_bytes, upvalue_count, word_bytes, count_of, function_bytes, functions_bytes}
 use Rattle.luf_proto.specs.Function.{Function, Functions, function, more_functions, no_functions}
 use Rattle.luf_proto.specs.FunctionOf.{function_of, functions_of}
@@ -93,7 +93,7 @@ list_written (Ok u) xs old mid new is w = record {
   worded = w.worded;
   are_worded = w.are_worded;
   appended = w.appended ∙ ap (λ t. t ++ flat_map constant_bytes w.worded) (is ∙ ap (λ n. old ++ size n) (sym (length_worded xs w.worded w.are_worded)))
-    ∙ append_assoc old (size (length w.worded)) (flat_map constant_bytes w.worded);
+      ∙ append_assoc old (size (length w.worded)) (flat_map constant_bytes w.worded);
 }
 list_written (Err e) xs old mid new is w = tt
 
@@ -111,17 +111,17 @@ constants_more xs i x old mid new within is before one = rw (take_item xs i x wi
   worded = before.worded ++ one.worded ∷ [];
   are_worded = worded_more (take i xs) before.worded x one.worded before.are_worded one.is_worded;
   appended = one.appended ∙ ap (λ t. t ++ constant_bytes one.worded) before.appended ∙ append_assoc old (flat_map constant_bytes before.worded) (constant_bytes one.worded)
-    ∙ ap (λ t. old ++ t) (sym (flat_map_more constant_bytes before.worded one.worded));
+      ∙ ap (λ t. old ++ t) (sym (flat_map_more constant_bytes before.worded one.worded));
 })
 
 pub constants_cause : (e : ChunkErr) (xs : List Const) (i : ℕ) (x : Const) (old mid : List ℕ) → i < length xs → x ≡ get_or xs i x
     → WritesConstants (take i xs) old mid → HasCause e (constant_floats (x ∷ [])) → HasCause e (constant_floats xs)
 constants_cause e xs i x old mid within is before cause =
     let whole : constant_floats xs ≡ constant_floats (take i xs) ++ (constant_floats (x ∷ []) ++ constant_floats (drop (suc i) xs)) =
-      ap constant_floats (split_item xs i x within is) ∙ constant_floats-append (take i xs) (x ∷ drop (suc i) xs)
-      ∙ ap (λ t. constant_floats (take i xs) ++ t) (constant_floats-append (x ∷ []) (drop (suc i) xs)) in
+    ap constant_floats (split_item xs i x within is) ∙ constant_floats-append (take i xs) (x ∷ drop (suc i) xs)
+    ∙ ap (λ t. constant_floats (take i xs) ++ t) (constant_floats-append (x ∷ []) (drop (suc i) xs)) in
     subst (HasCause e) (sym whole) (cause_within e (constant_floats (take i xs)) (constant_floats (x ∷ [])) (constant_floats (drop (suc i) xs))
-      (constants_have_words (take i xs) before.worded before.are_worded) cause)
+    (constants_have_words (take i xs) before.worded before.are_worded) cause)
 
 -- ---- functions
 
@@ -164,7 +164,7 @@ functions_more fs f old mid new before one = record {
   worded = before.worded ++ one.worded ∷ [];
   are_worded = worded_list_more fs before.worded f one.worded before.are_worded one.is_worded;
   appended = one.appended ∙ ap (λ t. t ++ function_bytes one.worded) before.appended ∙ append_assoc old (functions_bytes (functions_of before.worded)) (function_bytes one.worded)
-    ∙ ap (λ t. old ++ t) (sym (functions_bytes_more before.worded one.worded));
+      ∙ ap (λ t. old ++ t) (sym (functions_bytes_more before.worded one.worded));
 }
 
 pub functions_done : (fs : List Function) (old new : List ℕ) → WritesList fs old new → WritesFunctions (functions_of fs) old new
@@ -177,7 +177,7 @@ functions_done fs old new before = record {
 pub functions_cause : (e : ChunkErr) (fs back : List Function) (f : Function) (old mid : List ℕ) → WritesList fs old mid → HasCause e (floats_of f) → HasCause e (all_floats (functions_of (fs ++ f ∷ back)))
 functions_cause e fs back f old mid before cause =
     subst (HasCause e) (sym (all_floats-append fs (f ∷ back))) (cause_within e (all_floats (functions_of fs)) (floats_of f) (all_floats (functions_of back))
-      (have_words (functions_of fs) (functions_of before.worded) (are_worded_of fs before.worded before.are_worded)) cause)
+    (have_words (functions_of fs) (functions_of before.worded) (are_worded_of fs before.worded before.are_worded)) cause)
 
 -- ---- a function and a chunk
 
@@ -204,7 +204,7 @@ module _ (parameters line_from line_to registers : ℕ) (vararg : Bool) (code : 
         is_worded = (w3.worded, w6.worded, w3.are_worded, w6.are_worded, refl);
         appended = e7 ∙ ap (λ t. t ++ no_debug) f6 ∙ regroup old head words consts ups number within no_debug;
       }
-      where
+    where
       regroup : (a b c d e f g h : List ℕ) → ((((((a ++ b) ++ c) ++ d) ++ e) ++ f) ++ g) ++ h ≡ a ++ (((((b ++ c) ++ d) ++ e) ++ (f ++ g)) ++ h)
       regroup a b c d e f g h = simp append_assoc
 
@@ -234,10 +234,13 @@ upvalues_kept (function parameters vararg registers code constants upvalues inne
 
 pub chunk_written : {E : Type 0} (r : Result (Unit {0}) E) (f : Function) (n : ℕ) (old mid start new : List ℕ) → mid ≡ old ++ header → start ≡ mid ++ n ∷ [] → n ≡ upvalue_count f
     → OnOk r (WritesFunction f start new) → OnOk r ((worded : Function) × IsWorded f worded × (new ≡ old ++ chunk_bytes worded))
-chunk_written (Ok u) f n old mid start new e1 e2 e3 w = (w.worded, w.is_worded,
-    w.appended ∙ ap (λ t. t ++ function_bytes w.worded) (e2 ∙ ap (λ t. t ++ n ∷ []) e1) ∙ ap (λ k. ((old ++ header) ++ k ∷ []) ++ function_bytes w.worded) (e3 ∙ sym (upvalues_kept f w.worded w.is_worded))
-    ∙ regroup old header (upvalue_count w.worded ∷ []) (function_bytes w.worded))
-    where
+chunk_written (Ok u) f n old mid start new e1 e2 e3 w = (
+  w.worded,
+  w.is_worded,
+  w.appended ∙ ap (λ t. t ++ function_bytes w.worded) (e2 ∙ ap (λ t. t ++ n ∷ []) e1) ∙ ap (λ k. ((old ++ header) ++ k ∷ []) ++ function_bytes w.worded) (e3 ∙ sym (upvalues_kept f w.worded w.is_worded))
+      ∙ regroup old header (upvalue_count w.worded ∷ []) (function_bytes w.worded),
+)
+  where
     regroup : (a b c d : List ℕ) → ((a ++ b) ++ c) ++ d ≡ a ++ ((b ++ c) ++ d)
     regroup a b c d = simp append_assoc
 chunk_written (Err e) f n old mid start new e1 e2 e3 w = tt
@@ -262,7 +265,7 @@ pub subs_more : (subs : List Proto) (i : ℕ) (p : Proto) (old mid new : List �
     → WritesFunction (function_of p) mid new → WritesList (map function_of (take (suc i) subs)) old new
 subs_more subs i p old mid new within is before one =
     subst (λ fs. WritesList fs old new) (sym (ap (map function_of) (take_item subs i p within is) ∙ map_more function_of (take i subs) (p ∷ [])))
-      (functions_more (map function_of (take i subs)) (function_of p) old mid new before one)
+    (functions_more (map function_of (take i subs)) (function_of p) old mid new before one)
 
 pub subs_done : (subs : List Proto) (i : ℕ) (old new : List ℕ) → length subs ≤ i → WritesList (map function_of (take i subs)) old new → WritesFunctions (functions_of (map function_of subs)) old new
 subs_done subs i old new done before =
@@ -272,4 +275,4 @@ pub subs_cause : (e : ChunkErr) (subs : List Proto) (i : ℕ) (p : Proto) (old m
     → HasCause e (floats_of (function_of p)) → HasCause e (all_floats (functions_of (map function_of subs)))
 subs_cause e subs i p old mid within is before cause =
     subst (λ fs. HasCause e (all_floats (functions_of fs))) (sym (ap (map function_of) (split_item subs i p within is) ∙ map_more function_of (take i subs) (p ∷ drop (suc i) subs)))
-      (functions_cause e (map function_of (take i subs)) (map function_of (drop (suc i) subs)) (function_of p) old mid before cause)
+    (functions_cause e (map function_of (take i subs)) (map function_of (drop (suc i) subs)) (function_of p) old mid before cause)

@@ -1,6 +1,8 @@
 -- A function with a word in place of each float that is spelled, and the first float that has no word.
 use Rattle.std.specs.Prelude.{◌≡◌, ℕ, List, [], ◌∷◌, ◌++◌}
 use Rattle.std.specs.List.{AllByRecursion}
+use Rattle.luf_chunk.specs.declared.error.ChunkErr.{ChunkErr}
+use Rattle.luf_chunk.specs.declared.error.ChunkErr.TheVariants.{FloatReach, Memory}
 use Rattle.luf_num.specs.Float.{Scaled, IsFloat, IsInReach}
 use Rattle.luf_num.specs.Word.{IsFloatWord}
 use Rattle.luf_proto.specs.Function.{Function, Functions, function, no_functions, more_functions}
@@ -54,3 +56,8 @@ pub record IsFirstWithout (floats : List (List ℕ)) (spelling : List ℕ) : Typ
   pub in_order : floats ≡ before ++ spelling ∷ [] ++ behind
   pub have_words : AllByRecursion HasWord before
   pub has_none : HasNoWord spelling
+
+-- why there is no chunk: a float has no word, the first such, or no memory was found
+abbrev pub HasCause : ChunkErr → List (List ℕ) → Type 0
+HasCause (FloatReach spelling) floats = IsFirstWithout floats spelling
+HasCause Memory floats = Unit {0}

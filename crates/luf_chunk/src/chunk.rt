@@ -1,7 +1,7 @@
 //! Functions and the chunk.
 ghost use Rattle.std.specs.Prelude.{◌≡◌, ◌++◌, ◌∷◌, [], map, length, take, OnOk, OnErr, IfErr};
-ghost use Rattle.luf_chunk.specs.Worded.{IsWorded, IsFirstWithout, all_floats, floats_of};
-ghost use Rattle.luf_chunk.specs.inner.Written.{HasCause, WritesFunction, WritesFunctions};
+ghost use Rattle.luf_chunk.specs.Worded.{HasCause, IsWorded, all_floats, floats_of};
+ghost use Rattle.luf_chunk.specs.inner.Written.{WritesFunction, WritesFunctions};
 ghost use Rattle.luf_proto.specs.Chunk.{Fits, chunk_bytes, head_bytes, header, no_debug};
 ghost use Rattle.luf_proto.specs.Function.{Function};
 ghost use Rattle.luf_proto.specs.declared.proto.Proto.{out-Proto};
@@ -16,8 +16,8 @@ use std::alloc::Global;
 
 /// What a chunk begins with.
 const HEADER: [u8; 31] = [
-    0x1b, b'L', b'u', b'a', 0x54, 0x00, 0x19, 0x93, 0x0d, 0x0a, 0x1a, 0x0a, 0x04, 0x08, 0x08, 0x78, 0x56, 0x00, 0x00, 0x00, 0x00,
-    0x00, 0x00, 0x00, 0x00, 0x00, 0x00, 0x00, 0x28, 0x77, 0x40,
+    0x1b, b'L', b'u', b'a', 0x54, 0x00, 0x19, 0x93, 0x0d, 0x0a, 0x1a, 0x0a, 0x04, 0x08, 0x08, 0x78,
+    0x56, 0x00, 0x00, 0x00, 0x00, 0x00, 0x00, 0x00, 0x00, 0x00, 0x00, 0x00, 0x28, 0x77, 0x40,
 ];
 
 /// Appends what a function begins with.

@@ -1,8 +1,8 @@
 //! Constants as bytes, with the word of each float.
 ghost use Rattle.std.specs.Prelude.{◌≡◌, [], ◌∷◌, ◌++◌, length, take, OnOk, OnErr, IfErr, MatchOption};
 ghost use Rattle.std.specs.Int.{w64, to_le_bytes};
-ghost use Rattle.luf_chunk.specs.Worded.{constant_floats};
-ghost use Rattle.luf_chunk.specs.inner.Written.{HasCause, IsNotSpelled, WritesConstant, WritesConstantList, WritesConstants, WritesFloat};
+ghost use Rattle.luf_chunk.specs.Worded.{HasCause, constant_floats};
+ghost use Rattle.luf_chunk.specs.inner.Written.{IsNotSpelled, WritesConstant, WritesConstantList, WritesConstants, WritesFloat};
 ghost use Rattle.luf_proto.specs.Chunk.{constant_bytes, string};
 ghost use Rattle.luf_proto.specs.declared.proto.Const.TheVariants.{Spelled};
 
@@ -88,7 +88,8 @@ fn spelling_of(constant: &Const) -> Option<&[u8]>
 {
     match constant {
         Const::Spelled(spelling) => Some(spelling.as_slice()),
-        Const::Nil | Const::False | Const::True | Const::Int(_) | Const::Word(_) | Const::Str(_) => None,
+        Const::Nil | Const::False | Const::True | Const::Int(_) | Const::Word(_) | Const::Str(_) =>
+            None,
     }
 }
 
@@ -120,7 +121,11 @@ fn append_each(alloc: Global, constants: &[Const], into: &mut Vec<u8>) -> Result
 }
 
 /// Appends constants, and how many there are.
-pub fn append_constants(alloc: Global, constants: &[Const], into: &mut Vec<u8>) -> Result<(), ChunkErr>
+pub fn append_constants(
+    alloc: Global,
+    constants: &[Const],
+    into: &mut Vec<u8>,
+) -> Result<(), ChunkErr>
     ensures ok { OnOk result (WritesConstantList constants.now into.old.items into.new.items) }
     ensures err { OnErr result (take (length into.old.items) into.new.items ≡ into.old.items) }
     ensures cause { IfErr result (λ e. HasCause e (constant_floats constants.now)) }

@@ -1,1 +1,16 @@
+//! The function that a chunk of Lua 5.4 holds, or its first field that is wrong. What only debugging reads is skipped.
 #![tactic(auto)]
+
+mod chunk;
+mod constant;
+mod debug;
+mod error;
+mod field;
+mod function;
+mod size;
+#[cfg(test)]
+mod tests;
+mod upvalue;
+
+pub use chunk::read_chunk;
+pub use error::{ChunkWhat, UndumpErr};

@@ -1,9 +1,7 @@
--- What a part of the writer appends, and why it stops. Cited by private functions alone.
+-- What a part of the writer appends. Cited by private functions alone.
 use Rattle.std.specs.Prelude.{◌≡◌, ℕ, List, [], ◌∷◌, ◌++◌}
 use Rattle.std.specs.List.{flat_map}
-use Rattle.luf_chunk.specs.Worded.{IsFirstWithout, IsWorded, AreWorded, IsWordedConstant, AreWordedConstants}
-use Rattle.luf_chunk.specs.declared.error.ChunkErr.{ChunkErr}
-use Rattle.luf_chunk.specs.declared.error.ChunkErr.TheVariants.{FloatReach, Memory}
+use Rattle.luf_chunk.specs.Worded.{IsWorded, AreWorded, IsWordedConstant, AreWordedConstants}
 use Rattle.luf_proto.specs.Chunk.{constant_bytes, function_bytes, functions_bytes, list_bytes}
 use Rattle.luf_proto.specs.Function.{Function, Functions}
 use Rattle.luf_proto.specs.FunctionOf.{functions_of}
@@ -55,8 +53,3 @@ pub record WritesList (fs : List Function) (old new : List ℕ) : Type 0 where
   pub worded : List Function
   pub are_worded : AreWordedList fs worded
   pub appended : new ≡ old ++ functions_bytes (functions_of worded)
-
--- a float has no word, the first of these, or no memory was found
-abbrev pub HasCause : ChunkErr → List (List ℕ) → Type 0
-HasCause (FloatReach spelling) floats = IsFirstWithout floats spelling
-HasCause Memory floats = Unit {0}

@@ -13,7 +13,7 @@ loop-left-preserved-in-Continue-1 c =
     record {
       few = omega arith;
       whole = ap (λ t. t ++ groups k c.args.n) c.in_ok-push.ensures.items ∙ append_assoc c.loop-left.into.items (c.args.n / 2 ^ (7 * k) % 128 ∷ []) (groups k c.args.n)
-        ∙ ap (λ t. c.loop-left.into.items ++ t) (sym more) ∙ c.loop-left.invariant.whole;
+          ∙ ap (λ t. c.loop-left.into.items ++ t) (sym more) ∙ c.loop-left.invariant.whole;
       kept = kept_more c.args.into.now.items c.loop-left.into.items c.push.new.self.items (c.args.n / 2 ^ (7 * k) % 128 ∷ []) c.loop-left.invariant.kept c.in_ok-push.ensures.items;
     }
 
