@@ -1,3 +1,4 @@
 pub mod Fixed
 pub mod Groups
 pub mod Loop
+pub mod Sound

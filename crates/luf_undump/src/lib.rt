@@ -7,6 +7,7 @@ mod debug;
 mod error;
 mod field;
 mod function;
+mod laws;
 mod size;
 #[cfg(test)]
 mod tests;
@@ -14,3 +15,4 @@ mod upvalue;
 
 pub use chunk::read_chunk;
 pub use error::{ChunkWhat, UndumpErr};
+pub use laws::refused_within;
