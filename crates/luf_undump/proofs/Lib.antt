@@ -1,3 +1,4 @@
+pub mod Complete
 pub mod Fixed
 pub mod Groups
 pub mod Loop

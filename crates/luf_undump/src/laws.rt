@@ -1,6 +1,18 @@
 //! Laws of chunks.
-ghost use Rattle.std.specs.Prelude.{◌≡◌, ◌≤◌, ℕ, List, length, Err};
+ghost use Rattle.std.specs.Prelude.{◌≡◌, ◌≤◌, ◌↔◌, ℕ, List, length, Ok, Err};
+ghost use Rattle.luf_proto.specs.Function.{Function};
+ghost use Rattle.luf_undump.specs.Grammar.{IsChunkOf};
 ghost use Rattle.luf_undump.specs.Reading.{Wrong, chunk_at};
+
+/// Bytes are read as a function exactly where they are its chunk.
+pub fn read_is_chunk()
+    ensures { (bytes : List ℕ) (f : Function) → (chunk_at bytes ≡ Ok f) ↔ IsChunkOf bytes f }
+{}
+
+/// Bytes are the chunk of one function at most.
+pub fn one_function()
+    ensures { (bytes : List ℕ) (f g : Function) → IsChunkOf bytes f → IsChunkOf bytes g → f ≡ g }
+{}
 
 /// A field that is wrong begins among the bytes, or at their end.
 pub fn refused_within()
