@@ -3,3 +3,4 @@ pub mod Fixed
 pub mod Groups
 pub mod Loop
 pub mod Sound
+pub mod Written

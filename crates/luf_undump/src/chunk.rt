@@ -1,8 +1,11 @@
 //! Chunks.
-ghost use Rattle.std.specs.Prelude.{◌≡◌, ◌≤◌, length, Ok, IfOk, IfErr};
+ghost use Rattle.std.specs.Prelude.{◌≡◌, ◌≤◌, length, IfOk, IfErr, MatchResult};
+ghost use Rattle.luf_proto.specs.Function.{Function};
 ghost use Rattle.luf_proto.specs.FunctionOf.{function_of};
 ghost use Rattle.luf_undump.specs.Answers.{HasCause};
+ghost use Rattle.luf_undump.specs.Grammar.{IsChunkOf};
 ghost use Rattle.luf_undump.specs.Reading.{chunk_at};
+ghost use Rattle.luf_undump.specs.declared.error.UndumpErr.TheVariants.{Memory};
 ghost use Rattle.luf_undump.specs.inner.Gives.{Gives};
 
 use crate::error::{ChunkWhat, Stop, UndumpErr};
@@ -42,7 +45,8 @@ fn chunk(alloc: Global, bytes: &[u8]) -> Result<Proto, Stop>
 /// `Bad` says at which byte the first field begins that is wrong, and how. No memory is taken for what a count says, only for what is there.
 pub fn read_chunk(alloc: Global, bytes: &[u8]) -> Result<Proto, UndumpErr>
     requires { length bytes.now ≤ 4_194_304 }
-    ensures ok { IfOk result (λ p. chunk_at bytes.now ≡ Ok (function_of p)) }
+    ensures ok { IfOk result (λ p. IsChunkOf bytes.now (function_of p)) }
+    ensures exact { (f : Function) → IsChunkOf bytes.now f → MatchResult result (λ p. function_of p ≡ f) (λ e. e ≡ Memory) }
     ensures cause { IfErr result (λ e. HasCause bytes.now e) }
 {
     match chunk(alloc, bytes) {

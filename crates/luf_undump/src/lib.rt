@@ -15,4 +15,4 @@ mod upvalue;
 
 pub use chunk::read_chunk;
 pub use error::{ChunkWhat, UndumpErr};
-pub use laws::{one_function, read_is_chunk, refused_within};
+pub use laws::{one_function, read_is_chunk, refused_within, written_is_read};
