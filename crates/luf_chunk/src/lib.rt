@@ -5,9 +5,11 @@ mod chunk;
 mod constant;
 mod error;
 mod field;
+mod laws;
 #[cfg(test)]
 mod tests;
 
 pub use chunk::write_chunk;
 pub use error::ChunkErr;
+pub use laws::one_worded;
 pub use luf_memory::Memory;

@@ -1,3 +1,7 @@
+ghost use Rattle.std.specs.Prelude.{◌<◌, ◌^◌, length, IfOk};
+ghost use Rattle.luf_proto.specs.Chunk.{Fits};
+ghost use Rattle.luf_proto.specs.FunctionOf.{function_of};
+
 use crate::{ChunkErr, write_chunk};
 use luf_proto::{Const, Proto, Upval};
 use luf_text::Bytes;
@@ -14,7 +18,10 @@ const EMPTY: [u8; 57] = [
 ];
 
 /// The main function of an empty source, but for its constants.
-fn main_function(alloc: Global, consts: Vec<Const>) -> Result<Proto, Fail> {
+fn main_function(alloc: Global, consts: Vec<Const>) -> Result<Proto, Fail>
+    requires { length consts.items < 2 ^ 31 }
+    ensures { IfOk result (λ p. Fits (function_of p)) }
+{
     let upvalue = Upval {
         instack: true,
         idx: 0,

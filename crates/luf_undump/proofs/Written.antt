@@ -104,7 +104,7 @@ constant_is const.False is = grammar.constant_false
 constant_is const.True is = grammar.constant_true
 constant_is (const.Int n) is =
     let back : cast_signed w64 (from_le_bytes w64 (to_le_bytes w64 (cast_unsigned w64 n))) ≡ n =
-        ap (cast_signed w64) (from_le_bytes-to_le_bytes_8 (cast_unsigned w64 n) ((Fits-of_z is).fits)) ∙ to_z-of_z w64 n is in
+    ap (cast_signed w64) (from_le_bytes-to_le_bytes_8 (cast_unsigned w64 n) ((Fits-of_z is).fits)) ∙ to_z-of_z w64 n is in
     subst (λ m. IsConstantOf (3 ∷ to_le_bytes w64 (cast_unsigned w64 n)) (const.Int m)) back (grammar.integer (to_le_bytes w64 (cast_unsigned w64 n)) refl)
 constant_is (const.Word word) is =
     subst (λ v. IsConstantOf (19 ∷ to_le_bytes w64 word) (const.Word v)) (from_le_bytes-to_le_bytes_8 word is) (grammar.float (to_le_bytes w64 word) refl)
@@ -154,6 +154,7 @@ no_debug_is =
 
 mutual
   unfolding list_of
+
   function_is : (f : Function) (levels : ℕ) (main : Option ℕ) → CanHaveUpvalues main (upvalue_count f) → Fits f → IsReadable f levels → IsFunctionOf levels main (function_bytes f) f
   function_is (function parameters vararg registers code constants upvalues inner line_from line_to) zero main few fits readable = absurd readable
   function_is (function parameters vararg registers code constants upvalues inner line_from line_to) (suc levels) main few fits readable =

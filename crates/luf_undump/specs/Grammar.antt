@@ -92,24 +92,24 @@ pub data AreDistances : List ℕ → Type 0 where
 -- distances of lines, lines, locals, and names of upvalues (dumpDebug)
 pub data IsDebugPart : List ℕ → Type 0 where
   debug_part : (distances lines locals names : List ℕ) → AreDistances distances → IsDebugList IsPair lines → IsDebugList IsDebugLocal locals → IsDebugList IsDebugString names
-    → IsDebugPart (distances ++ lines ++ locals ++ names)
+      → IsDebugPart (distances ++ lines ++ locals ++ names)
 
 -- ---- functions
 
 -- what a function begins with: its source, its lines, and three bytes
 pub data IsHeadOf : List ℕ → Head → Type 0 where
   begins : (source first last : List ℕ) (line_from line_to parameters registers : ℕ) (vararg : Bool)
-    → IsDebugString source → IsCountOf first line_from → IsCountOf last line_to
-    → IsHeadOf (source ++ first ++ last ++ parameters ∷ bit vararg ∷ registers ∷ [])
-    (record { line_from = line_from; line_to = line_to; parameters = parameters; vararg = vararg; registers = registers })
+      → IsDebugString source → IsCountOf first line_from → IsCountOf last line_to
+      → IsHeadOf (source ++ first ++ last ++ parameters ∷ bit vararg ∷ registers ∷ [])
+      (record { line_from = line_from; line_to = line_to; parameters = parameters; vararg = vararg; registers = registers })
 
 -- a function, by what the bytes of the functions inside it are, and for main the byte before it (dumpFunction)
 pub data IsFunctionAround (IsInside : List ℕ → Function → Type 0) (main : Option ℕ) : List ℕ → Function → Type 0 where
   around : (head code constants upvalues inside debug : List ℕ) (h : Head) (words : List ℕ) (consts : List Const) (upvals : List Upval) (functions : List Function)
-    → IsHeadOf head h → IsListOf IsInstructionOf code words → IsListOf IsConstantOf constants consts
-    → CanHaveUpvalues main (length upvals) → IsListOf IsUpvalueOf upvalues upvals → IsListOf IsInside inside functions → IsDebugPart debug
-    → IsFunctionAround IsInside main (head ++ code ++ constants ++ upvalues ++ inside ++ debug)
-    (function h.parameters h.vararg h.registers words consts upvals (functions_of functions) h.line_from h.line_to)
+      → IsHeadOf head h → IsListOf IsInstructionOf code words → IsListOf IsConstantOf constants consts
+      → CanHaveUpvalues main (length upvals) → IsListOf IsUpvalueOf upvalues upvals → IsListOf IsInside inside functions → IsDebugPart debug
+      → IsFunctionAround IsInside main (head ++ code ++ constants ++ upvalues ++ inside ++ debug)
+      (function h.parameters h.vararg h.registers words consts upvals (functions_of functions) h.line_from h.line_to)
 
 -- a function within so many levels
 abbrev pub IsFunctionOf : ℕ → Option ℕ → List ℕ → Function → Type 0

@@ -1,4 +1,5 @@
 use crate::{ChunkWhat, UndumpErr, read_chunk};
+use luf_proto::Proto;
 use std::alloc::Global;
 use std::process::Abort;
 use std::test::Fail;
@@ -11,62 +12,151 @@ const EMPTY: [u8; 57] = [
     0x80, 0x80, 0x80, 0x80,
 ];
 
-/// The chunk with these bytes in place of `len` bytes from `at` on is refused so.
-fn check(
+/// What is read of the chunk with these bytes in place of `len` bytes from `at` on: nothing, or the first wrong field.
+fn read(
     rt: &impl Abort,
     alloc: Global,
     at: usize,
     len: usize,
     bytes: &[u8],
-    wanted: UndumpErr,
-) -> Result<(), Fail> {
-    let mut chunk = EMPTY[..at].to_vec(alloc)?;
+) -> Result<Result<Proto, UndumpErr>, Fail> {
+    let (front, rest) = EMPTY.split_at(at.min(EMPTY.len()));
+    let (_, back) = rest.split_at(len.min(rest.len()));
+    let mut chunk = front.to_vec(alloc)?;
     chunk.extend_from_slice(bytes)?;
-    chunk.extend_from_slice(&EMPTY[at + len..])?;
-    match read_chunk(alloc, chunk.as_slice()) {
-        Ok(_) => assert!(rt; false, "{wanted:?}"),
-        Err(e) => assert_eq!(rt; e, wanted),
-    }
-    Ok(())
+    chunk.extend_from_slice(back)?;
+    assert!(rt; chunk.len() <= 4_194_304, "{at}");
+    Ok(read_chunk(alloc, chunk.as_slice()))
 }
 
 #[test]
-fn reads_the_empty_chunk(rt: HostRuntime) -> Result<(), Fail> {
-    let main = read_chunk(rt.alloc(), &EMPTY)?;
-    assert_eq!(rt; main.code.as_slice(), [0x51, 0x1010046].as_slice());
-    assert_eq!(rt; main.upvals.as_slice()[0].instack, true);
+fn reads(rt: HostRuntime) -> Result<(), Fail> {
+    let table: [(usize, usize, &[u8]); 5] = [
+        (0, 0, b""),
+        (32, 1, b"\x83@x"),
+        (
+            47,
+            1,
+            b"\x81\x04\xa90123456789012345678901234567890123456789",
+        ),
+        (
+            47,
+            1,
+            b"\x81\x14\xaa01234567890123456789012345678901234567890",
+        ),
+        (
+            53,
+            4,
+            b"\x81\x05\x81\x80\x81\x81\x82a\x80\x82\x82\x85_ENV\x80",
+        ),
+    ];
+    for (at, len, bytes) in table {
+        match read(&rt, rt.alloc(), at, len, bytes)? {
+            Ok(main) => assert_eq!(rt; main.code.as_slice(), [0x51, 0x1010046].as_slice()),
+            Err(e) => assert!(rt; false, "{e:?}"),
+        }
+    }
     Ok(())
 }
 
 /// The first wrong field, with its place and its word.
 #[test]
 fn refuses(rt: HostRuntime) -> Result<(), Fail> {
-    let table: [(usize, usize, &[u8], u32, ChunkWhat); 9] = [
-        (4, 1, &[0x53], 4, ChunkWhat::BadHeader),
-        (56, 1, &[], 56, ChunkWhat::Short),
-        (57, 0, &[0], 57, ChunkWhat::Trailing),
-        (38, 1, &[0x07, 0x7f, 0x7f, 0x7f, 0xff], 59, ChunkWhat::Short),
+    let table: [(usize, usize, &[u8], u32, ChunkWhat); 17] = [
+        (4, 1, b"\x53", 4, ChunkWhat::BadHeader),
+        (57, 0, b"\x00", 57, ChunkWhat::Trailing),
+        (38, 1, b"\x07\x7f\x7f\x7f\xff", 59, ChunkWhat::Short),
+        (38, 1, b"\x08\x00\x00\x00\x80", 38, ChunkWhat::BadSize),
+        (38, 1, b"\x00\x82", 38, ChunkWhat::BadSize),
+        (38, 19, b"\x00", 38, ChunkWhat::Short),
         (
-            38,
+            32,
             1,
-            &[0x08, 0x00, 0x00, 0x00, 0x80],
-            38,
+            b"\x01\x7f\x7f\x7f\x7f\x7f\x7f\x7f\x7f\xff",
+            42,
+            ChunkWhat::Short,
+        ),
+        (
+            32,
+            1,
+            b"\x02\x00\x00\x00\x00\x00\x00\x00\x00\x80",
+            32,
             ChunkWhat::BadSize,
         ),
-        (38, 1, &[0x00, 0x82], 38, ChunkWhat::BadSize),
-        (36, 1, &[0x02], 36, ChunkWhat::BadTag),
-        (48, 1, &[0x82], 48, ChunkWhat::BadSize),
-        (51, 1, &[0x04], 51, ChunkWhat::BadTag),
+        (36, 1, b"\x02", 36, ChunkWhat::BadTag),
+        (47, 1, b"\x81\x02", 48, ChunkWhat::BadTag),
+        (47, 1, b"\x81\x04\x80", 49, ChunkWhat::BadSize),
+        (
+            47,
+            1,
+            b"\x81\x14\xa90123456789012345678901234567890123456789",
+            49,
+            ChunkWhat::BadSize,
+        ),
+        (
+            47,
+            1,
+            b"\x81\x04\xaa01234567890123456789012345678901234567890",
+            49,
+            ChunkWhat::BadSize,
+        ),
+        (48, 1, b"\x82", 48, ChunkWhat::BadSize),
+        (49, 1, b"\x02", 49, ChunkWhat::BadTag),
+        (51, 1, b"\x04", 51, ChunkWhat::BadTag),
+        (
+            52,
+            1,
+            b"\x81\x80\x80\x80\x00\x00\x02\x80\x80\x02\x80",
+            61,
+            ChunkWhat::BadSize,
+        ),
     ];
     for (at, len, bytes, wrong, what) in table {
-        check(
-            &rt,
-            rt.alloc(),
-            at,
-            len,
-            bytes,
-            UndumpErr::Bad { at: wrong, what },
-        )?;
+        match read(&rt, rt.alloc(), at, len, bytes)? {
+            Ok(_) => assert!(rt; false, "{what:?}"),
+            Err(e) => assert_eq!(rt; e, UndumpErr::Bad { at: wrong, what }),
+        }
+    }
+    Ok(())
+}
+
+/// Each chunk that is cut off.
+#[test]
+fn refuses_what_is_short(rt: HostRuntime) -> Result<(), Fail> {
+    for len in 0..EMPTY.len() {
+        match read_chunk(rt.alloc(), &EMPTY[..len]) {
+            Err(UndumpErr::Bad { what, .. }) => assert_eq!(rt; what, ChunkWhat::Short),
+            _ => assert!(rt; false, "{len}"),
+        }
+    }
+    Ok(())
+}
+
+/// Functions so many levels below main.
+fn nested(rt: &impl Abort, alloc: Global, levels: usize) -> Result<Result<Proto, UndumpErr>, Fail> {
+    let mut bytes = Vec::new(alloc);
+    for _ in 0..levels {
+        bytes.extend_from_slice(b"\x81\x80\x80\x80\x00\x00\x02\x80\x80\x80")?;
+    }
+    bytes.push(0x80)?;
+    for _ in 0..levels {
+        bytes.extend_from_slice(b"\x80\x80\x80\x80")?;
+    }
+    read(rt, alloc, 52, 1, bytes.as_slice())
+}
+
+#[test]
+fn refuses_what_is_too_deep(rt: HostRuntime) -> Result<(), Fail> {
+    assert!(rt; nested(&rt, rt.alloc(), 200)?.is_ok(), "200");
+    match nested(&rt, rt.alloc(), 201)? {
+        Ok(_) => assert!(rt; false, "201"),
+        Err(e) => assert_eq!(rt;
+            e,
+            UndumpErr::Bad {
+                at: 2053,
+                what: ChunkWhat::Nested
+            }
+        ),
     }
     Ok(())
 }
