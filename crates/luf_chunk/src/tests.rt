@@ -62,7 +62,14 @@ fn writes_floats(rt: HostRuntime) -> Result<(), Fail> {
         let main = main_function(rt.alloc(), consts)?;
         let mut into = b">".to_vec(rt.alloc())?;
         match (write_chunk(rt.alloc(), &main, &mut into), word) {
-            (Ok(()), Some(word)) => assert_eq!(rt; &into[50..58], word.to_le_bytes().as_slice()),
+            (Ok(()), Some(word)) => {
+                let mut wanted = b">".to_vec(rt.alloc())?;
+                wanted.extend_from_slice(&EMPTY[..47])?;
+                wanted.extend_from_slice(&[0x81, 0x13])?;
+                wanted.extend_from_slice(&word.to_le_bytes())?;
+                wanted.extend_from_slice(&EMPTY[48..])?;
+                assert_eq!(rt; into.as_slice(), wanted.as_slice());
+            }
             (Err(ChunkErr::FloatReach { .. }), None) => assert_eq!(rt;
                 into.as_slice(),
                 b">".as_slice()
