@@ -1,22 +1,19 @@
 -- What is written so is read so.
-use Rattle.std.proofs.Common.{◌≡◌, ℕ, zero, suc, ◌+◌, ◌-◌, ◌*◌, ◌%◌, ◌^◌, ◌<◌, ◌≤◌, ◌==◌, Bool, true, false, if◌then◌else◌, nat_lt, nat_le, List, [], ◌∷◌, ◌++◌, length, take, drop, Option, Some, None, Result, Ok, Err, refl, sym, ap, ◌∙◌, subst, append_assoc, length-append, arith}
+use Rattle.std.proofs.Common.{◌≡◌, ℕ, zero, suc, ◌+◌, ◌-◌, ◌*◌, ◌%◌, ◌^◌, ◌<◌, ◌≤◌, ◌==◌, Bool, true, false, if◌then◌else◌, nat_lt, nat_le, List, [], ◌∷◌, ◌++◌, length, take, drop, Option, Some, None, Result, Ok, refl, sym, ap, ◌∙◌, append_assoc, length-append, arith}
 use Rattle.std.proofs.Math.Seq.{take-append_seam, drop-append_seam}
 use Rattle.std.proofs.lemmas.Bool.{eq-eqb, ne_eqb, le-leb, le-ltb, lt-ltb}
 use Rattle.std.proofs.lemmas.List.{append-nil}
-use Rattle.std.specs.Int.{w32, w64, from_le_bytes, cast_signed}
+use Rattle.std.specs.Int.{w64, from_le_bytes}
 use Rattle.std.specs.List.{AllByRecursion, prefix_len}
 use Rattle.luf_proto.specs.Chunk.{bit, header, most_short}
-use Rattle.luf_proto.specs.Function.{Function, function}
-use Rattle.luf_proto.specs.FunctionOf.{functions_of}
+use Rattle.luf_proto.specs.Function.{Function}
 use Rattle.luf_proto.specs.declared.proto.Const.{Const}
 use Rattle.luf_proto.specs.declared.proto.Const.TheVariants as const
 use Rattle.luf_proto.specs.declared.proto.Upval.{Upval}
-use Rattle.luf_undump.specs.Reading.{◌>>=◌, Wrong, wrong, byte_at, fixed_byte_at, fixed_at, is_group, begins_with_zero, value_of_groups, last_group_at, size_at, count_at, run_at, word_at, number_at, flag_at, debug_string_at, has_length, constant_string_at, tagged_at, constant_at, kind_at, upvalue_at, many_at, upvalue_count_at, line_at, local_at, skip_at, distances_at, debug_at, head_at, function_at, chunk_at, most_levels}
+use Rattle.luf_undump.specs.Reading.{◌>>=◌, Wrong, byte_at, fixed_byte_at, fixed_at, is_group, begins_with_zero, value_of_groups, last_group_at, size_at, count_at, run_at, word_at, number_at, flag_at, debug_string_at, has_length, constant_string_at, tagged_at, constant_at, kind_at, upvalue_at, many_at, upvalue_count_at, line_at, local_at, skip_at, distances_at, debug_at, head_at, function_at, chunk_at, most_levels}
 use Rattle.luf_undump.specs.Grammar.{AreDistances, AreEach, AreSome, CanHaveUpvalues, IsChunkOf, IsConstantOf, IsCountOf, IsDebugList, IsDebugLocal, IsDebugPart, IsDebugString, IsFunctionAround, IsFunctionOf, IsHeadOf, IsInstructionOf, IsListOf, IsPair, IsSizeOf, IsUpvalueOf}
 use Rattle.luf_undump.specs.Grammar as grammar
 use Rattle.luf_undump.specs.declared.function.Head.{Head}
-use Rattle.luf_undump.specs.declared.error.ChunkWhat.{ChunkWhat}
-use Rattle.luf_undump.specs.declared.error.ChunkWhat.TheVariants.{BadHeader, Short, BadSize, BadTag, Nested, Trailing}
 
 -- ---- the steps of a reader
 

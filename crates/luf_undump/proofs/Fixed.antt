@@ -1,5 +1,5 @@
 -- Bytes that must be these, one by one.
-use Rattle.std.proofs.Common.{◌≡◌, ℕ, zero, suc, ◌+◌, ◌<◌, ◌≤◌, ◌==◌, Bool, true, false, List, [], ◌∷◌, length, drop, get_or, Result, Ok, Err, refl, sym, ap, ◌∙◌, subst, arith}
+use Rattle.std.proofs.Common.{◌≡◌, ℕ, zero, suc, ◌<◌, ◌≤◌, List, [], ◌∷◌, length, drop, get_or, Result, Ok, Err, refl, sym, ◌∙◌, arith}
 use Rattle.luf_undump.specs.Reading.{Wrong, fixed_at, fixed_byte_at}
 use Rattle.luf_undump.specs.declared.error.Stop.{Stop}
 use Rattle.luf_undump.specs.declared.error.Stop.TheVariants.{Bad, Memory}

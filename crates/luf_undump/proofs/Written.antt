@@ -1,14 +1,14 @@
 -- The bytes that are written of a function are its chunk.
-use Rattle.std.proofs.Common.{◌≡◌, ℕ, zero, suc, ◌+◌, ◌-◌, ◌*◌, ◌/◌, ◌%◌, ◌^◌, ◌<◌, ◌≤◌, ◌==◌, All, Bool, true, false, if◌then◌else◌, nat_le, fold, List, [], ◌∷◌, ◌++◌, length, Option, Some, None, refl, sym, ap, ◌∙◌, subst, append_assoc, arith}
+use Rattle.std.proofs.Common.{◌≡◌, ℕ, zero, suc, ◌+◌, ◌*◌, ◌/◌, ◌%◌, ◌^◌, ◌<◌, ◌≤◌, ◌==◌, All, Bool, true, false, if◌then◌else◌, nat_le, fold, List, [], ◌∷◌, ◌++◌, length, Option, Some, None, refl, sym, ap, ◌∙◌, subst, append_assoc, arith}
 use Rattle.std.proofs.Math.Facts.{Fits-of_z}
-use Rattle.std.proofs.Math.Nat.{div-div-eq-div-mul, div-lt_iff_lt-mul}
+use Rattle.std.proofs.Math.Nat.{div-div-eq-div-mul}
 use Rattle.std.proofs.lemmas.Bool.{eqb-true, eqb-false, leb-true, leb-false, ne_eqb}
 use Rattle.std.proofs.lemmas.Int.{to_z-of_z}
 use Rattle.std.proofs.lemmas.List.{append-nil}
-use Rattle.std.proofs.lemmas.Nat.{from_le_bytes-to_le_bytes_4, from_le_bytes-to_le_bytes_8, pow-add, pow_pos}
-use Rattle.std.specs.Int.{w32, w64, cast_unsigned, cast_signed, from_le_bytes, to_le_bytes}
+use Rattle.std.proofs.lemmas.Nat.{from_le_bytes-to_le_bytes_4, from_le_bytes-to_le_bytes_8, pow-add}
+use Rattle.std.specs.Int.{w64, cast_unsigned, cast_signed, from_le_bytes, to_le_bytes}
 use Rattle.std.specs.List.{AllByRecursion, flat_map}
-use Rattle.luf_proto.specs.Chunk.{AllFit, Fits, bit, chunk_bytes, constant_bytes, count_of, function_bytes, functions_bytes, groups, head_bytes, header, list_bytes, most_short, no_debug, size, string, upvalue_bytes, upvalue_count, word_bytes}
+use Rattle.luf_proto.specs.Chunk.{AllFit, Fits, chunk_bytes, constant_bytes, count_of, function_bytes, functions_bytes, groups, head_bytes, header, list_bytes, most_short, no_debug, size, string, upvalue_bytes, upvalue_count, word_bytes}
 use Rattle.luf_proto.specs.Function.{Function, Functions, function, no_functions, more_functions}
 use Rattle.luf_proto.specs.FunctionOf.{functions_of}
 use Rattle.luf_proto.specs.declared.proto.Const.{Const}

@@ -1,8 +1,8 @@
 -- What the bytes of a chunk of Lua 5.4 read as, from left to right, field by field, or the first field that is wrong, and how.
 -- The order of the fields is that of ldump.c, the limits are rules of our own. Each part reads some bytes from the front and
 -- gives what they stand for and the bytes behind them.
-use Rattle.std.specs.Prelude.{◌≡◌, ℕ, zero, suc, ◌+◌, ◌-◌, ◌*◌, ◌%◌, ◌^◌, Bool, true, false, ◌||◌, ◌&&◌, ◌==◌, nat_lt, nat_le, List, [], ◌∷◌, ◌++◌, length, take, drop, fold, Option, Some, None, Result, Ok, Err, if◌then◌else◌}
-use Rattle.std.specs.Int.{w32, w64, byte_len, from_le_bytes, cast_signed}
+use Rattle.std.specs.Prelude.{ℕ, zero, suc, ◌+◌, ◌-◌, ◌*◌, ◌%◌, ◌^◌, Bool, true, false, ◌==◌, nat_lt, nat_le, List, [], ◌∷◌, length, take, drop, fold, Option, Some, None, Result, Ok, Err, if◌then◌else◌}
+use Rattle.std.specs.Int.{w32, w64, from_le_bytes, cast_signed}
 use Rattle.std.specs.List.{prefix_len}
 use Rattle.luf_proto.specs.Chunk.{header, most_short}
 use Rattle.luf_proto.specs.Function.{Function, function}

@@ -1,8 +1,7 @@
 -- The place is counted from the front.
 use Rattle.std.proofs.Common.{◌≡◌, Result, Ok, Err, arith}
 use Rattle.luf_proto.specs.Function.{Function}
-use Rattle.luf_undump.specs.Reading.{Wrong, chunk_at}
-use Rattle.luf_undump.specs.inner.Gives.{Fails}
+use Rattle.luf_undump.specs.Reading.{Wrong}
 use Rattle.luf_undump.proofs.Complete.{chunk_complete}
 use Rattle.luf_undump.proofs.Sound.{chunk_sound, refused_within}
 use Rattle.luf_undump.proofs.chunk.read_chunk.Goals as goal

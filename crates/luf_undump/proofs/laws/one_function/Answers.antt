@@ -1,5 +1,5 @@
 -- What the bytes read as is one function.
-use Rattle.std.proofs.Common.{◌≡◌, ◌∙◌, sym, Ok, Result}
+use Rattle.std.proofs.Common.{◌≡◌, Ok, Result}
 use Rattle.luf_proto.specs.Function.{Function}
 use Rattle.luf_undump.specs.Reading.{Wrong}
 use Rattle.luf_undump.proofs.Complete as complete
