@@ -1,4 +1,0 @@
-pub mod Groups
-pub mod Kept
-pub mod OneWorded
-pub mod Words

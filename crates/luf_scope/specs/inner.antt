@@ -1,3 +1,0 @@
--- What only private functions cite, so that nothing here has to be believed.
-pub mod Parts
-pub mod Order

@@ -1,6 +1,0 @@
-pub mod Complete
-pub mod Fixed
-pub mod Groups
-pub mod Loop
-pub mod Sound
-pub mod Written
