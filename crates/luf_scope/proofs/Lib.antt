@@ -4,3 +4,4 @@ pub mod TreeReads
 pub mod Solid
 pub mod Targets
 pub mod Lying
+pub mod Places
