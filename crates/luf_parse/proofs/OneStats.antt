@@ -14,7 +14,7 @@ use Rattle.luf_tree.specs.Grammar as g
 use Rattle.luf_tree.specs.Grammar.{At, expression, IsToken, IsString, AreDeclared, IsExpr, IsSimple, IsPrefix, IsCall, IsParen, IsHead, AreExprs, IsTable, IsSemicolon, IsReturn, AreTargets, IsElse, IsForStep}
 use Rattle.luf_parse.specs.inner.Exact.{Alone}
 use Rattle.luf_parse.specs.inner.Follow.{NotAt, EndsExpr, EndsExprs, begins_prefix, ends_block, ends_arms, ends_return, follows_stat, EndsBlock, EndsStat, EndsArms}
-use Rattle.luf_parse.specs.inner.Parts.{EndsDeclared, ReadPrefix, ReadBlock, ReadStats, ReadSemicolon, ReadEnded, ReadVariable, ReadMoreTargets, ReadElse, ReadForStep}
+use Rattle.luf_parse.specs.inner.Parts.{EndsDeclared, ReadPrefix, ReadBlock, ReadStats, ReadSemicolon, ReadEnded, ReadVariable, ReadMoreTargets, ReadElse, ReadForStep, ReadExpr, ReadBounds}
 use Rattle.luf_parse.specs.declared.prefixes.PrefixExpr.{PrefixExpr}
 use Rattle.luf_parse.specs.declared.prefixes.Shape.TheVariants.{Variable}
 use Rattle.luf_parse.proofs.Exactness.{alone_next, alone_is, then_rest, token_only}
@@ -119,6 +119,13 @@ call_begins d = prefix_begins begins_prefix refl refl (g.call_prefix d)
 
 pub moved_step : {toks : List Tok} {left i j k : ℕ} {step : Option Expr} → i ≡ j → Alone (ReadForStep toks left j) (step, k) → Alone (ReadForStep toks left i) (step, k)
 moved_step {toks} {left} {k = k} {step = step} same only = subst (λ p. Alone (ReadForStep toks left p) (step, k)) (sym same) only
+
+-- the bounds of a `for`, where there is one of each part
+pub bounds_only : {toks : List Tok} {left i n p q : ℕ} {first limit : Expr} {step : Option Expr}
+    → Alone (ReadExpr toks 1 left i) first → Alone (IsToken toks (out-Expr first).to (Sign sign.Comma)) n → Alone (ReadExpr toks 1 left n) limit
+    → Alone (ReadForStep toks left (out-Expr limit).to) (step, p) → Alone (IsToken toks p (Word word.Do)) q
+    → Alone (ReadBounds toks left i) (record { first = first; limit = limit; step = step; opener = p; inside = q })
+bounds_only first comma limit step opener = alone_next first (alone_next comma (alone_next limit (alone_next step (alone_next opener (alone_is refl)))))
 
 -- the names of a `for` end before its `in`, and its values before its `do`
 pub in_no_comma : {toks : List Tok} {i j : ℕ} → IsToken toks i (Word word.In) j → NotAt toks i (Sign sign.Comma)

@@ -39,7 +39,7 @@ use Rattle.luf_parse.proofs.ExprForms.{unary_form, power_form, function_form, ta
 use Rattle.luf_parse.proofs.Following.{not_at, token_closes, stat_ends_expr, stat_ends_exprs, arms_end_block, block_ends_stats, field_ends_expr, binary_ends_operand, closed_suffix}
 use Rattle.luf_parse.proofs.OneNames.{names_only, path_only, method_only, params_only, declared_only}
 use Rattle.luf_parse.proofs.OneExprs.{simple_first, OnlyExpr, operand_leads, chain_leads, leads_only, power_to, prefixed_only, OnlyHead, head_alone, paren_head_only, suffixed_only, paren_ends, string_no_paren, table_no_paren, table_no_string, brace_separates, separator_ends, item_assigned}
-use Rattle.luf_parse.proofs.OneStats.{return_begins, semicolon_only, values_begin, else_ends_arms, step_ends_expr, stat_ends_declared, stat_no_assign, assign_ends_declared, declared_no_function, targets_begin, call_begins, moved_stats, moved_step, in_no_comma, do_ends, ended_only, no_else_only, no_step_only, OnlyTargets, one_target_only, more_targets_only}
+use Rattle.luf_parse.proofs.OneStats.{bounds_only, return_begins, semicolon_only, values_begin, else_ends_arms, step_ends_expr, stat_ends_declared, stat_no_assign, assign_ends_declared, declared_no_function, targets_begin, call_begins, moved_stats, moved_step, in_no_comma, do_ends, ended_only, no_else_only, no_step_only, OnlyTargets, one_target_only, more_targets_only}
 use Rattle.luf_parse.proofs.Only.{before, alone_enters, rest_more, rest_last}
 use Rattle.luf_parse.proofs.Reading.{stats_follow, stat_goes, semicolon_ends_return, semicolon_ends_exprs, stat_ends_prefix}
 use Rattle.luf_parse.proofs.StatForms.{begins_word, begins_sign, expr_stat_form, func_body_form, block_form, stats_form, last_form, stats_end, return_form, arms_form, arm_form, else_form, for_step_form, names_assigned, body_begins, method_no_dot}
@@ -184,8 +184,8 @@ mutual
   stat_only (g.if_stat t d e u) ends left =
       alone_form (begins_word t) (alone_next (arms_only d (else_ends_arms e u.there) left) (alone_next (else_only e u.there left) (alone_next (token_only u) (alone_is refl))))
   stat_only (g.for_stat t name assign a comma b c u d v) ends left =
-      alone_form (begins_word t) (λ s h. alone_next (expr_only a (token_closes comma.there refl refl refl) left).alone (alone_next (token_only (moved (expr_to a) comma)) (alone_next (expr_only b (step_ends_expr c u.there) left).alone
-      (alone_next (moved_step (expr_to b) (step_only c u.there left)) (alone_next (token_only u) (alone_next (ended_only (block_only d (ap ends_block v.there)) (block_to d) v) (alone_is refl))))))
+      alone_form (begins_word t) (λ s h. alone_next (bounds_only (expr_only a (token_closes comma.there refl refl refl) left).alone (token_only (moved (expr_to a) comma)) (expr_only b (step_ends_expr c u.there) left).alone
+      (moved_step (expr_to b) (step_only c u.there left)) (token_only u)) (alone_next (ended_only (block_only d (ap ends_block v.there)) (block_to d) v) (alone_is refl))
       s (h.count _ (record { after = _; name = name; sign = assign })))
   stat_only (g.for_in_stat t d u values v b w) ends left =
       alone_form (begins_word t) (λ s h. alone_next (names_only d (in_no_comma u)) (alone_next (token_only u) (alone_next (exprs_only values (do_ends v.there) left) (alone_next (token_only v)

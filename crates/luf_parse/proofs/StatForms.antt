@@ -359,8 +359,10 @@ if_form {toks} {left} {i} {j} {k} {l} {o} {arms} {last} t d e u level = let leve
 count_form : {toks : List Tok} {left i l m n o p q r s : ℕ} {first limit : Expr} {step : Option Expr} {body : Block} (name : ℕ) → IsExpr toks 1 l m first → IsToken toks m (Sign sign.Comma) n → IsExpr toks 1 n o limit → IsForStep toks o p step
     → IsToken toks p (Word word.Do) q → IsBlock toks q r body → IsToken toks r (Word word.End) s → stat_levels (statement i s (stat.For name first limit step body)) ≤ left → ReadCount toks left i name l (statement i s (stat.For name first limit step body))
 count_form {toks} {left} {i} {l} {m} {n} {o} {p} {q} {r} {s} {first} {limit} {step} {body} name a t b c u d v level = let levels = lv.for_levels i s name first limit step body in
-    reads first (read_expr a (token_closes t.there refl refl refl) (omega arith)) (reads n (moved (expr_to a) t) (reads limit (read_expr b (closes c) (omega arith))
-    (reads (step, p) (subst (λ z. ReadForStep toks left z (step, p)) (sym (expr_to b)) (record { is = c; ends = u.there; level = omega arith })) (reads q u (reads (body, s) (read_ended d v (omega arith)) refl)))))
+    reads (record { first = first; limit = limit; step = step; opener = p; inside = q })
+      (reads first (read_expr a (token_closes t.there refl refl refl) (omega arith)) (reads n (moved (expr_to a) t) (reads limit (read_expr b (closes c) (omega arith))
+      (reads (step, p) (subst (λ z. ReadForStep toks left z (step, p)) (sym (expr_to b)) (record { is = c; ends = u.there; level = omega arith })) (reads q u refl)))))
+      (reads (body, s) (read_ended d v (omega arith)) refl)
   where
     closes : {o : ℕ} {step : Option Expr} → IsForStep toks o p step → EndsExpr toks 1 o
     closes g.no_for_step = token_closes u.there refl refl refl

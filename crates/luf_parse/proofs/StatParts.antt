@@ -1,5 +1,5 @@
 -- Each statement is found where its parts are.
-use Rattle.std.proofs.Common.{◌≡◌, ℕ, ◌+◌, ◌≤◌, Option, Some, List, [], map, length, sym, subst, arith}
+use Rattle.std.proofs.Common.{◌≡◌, ℕ, ◌+◌, ◌≤◌, Option, Some, List, [], map, max, length, sym, subst, arith}
 use Rattle.std.specs.Option.{option_map}
 use Rattle.luf_lex.specs.declared.token.Tok.{Tok}
 use Rattle.luf_lex.specs.declared.token.Tok.TheVariants.{Name, Word, Sign}
@@ -10,12 +10,14 @@ use Rattle.luf_tree.specs.declared.tree.Block.{Block, out-Block}
 use Rattle.luf_tree.specs.declared.tree.StatKind.TheVariants as stat
 use Rattle.luf_tree.specs.declared.tree.Arm.{Arm, roll-Arm}
 use Rattle.luf_tree.specs.declared.tree.FuncBody.{FuncBody}
-use Rattle.luf_tree.specs.declared.tree.Expr.{Expr}
+use Rattle.luf_tree.specs.declared.tree.Expr.{Expr, out-Expr}
 use Rattle.luf_tree.specs.Level.{deepest, if_there, block_if_there, expr_levels, block_levels, stat_levels, arm_levels, body_levels}
 use Rattle.luf_tree.specs.Grammar as g
 use Rattle.luf_tree.specs.Grammar.{expression, statement, IsToken, IsString, NoParenFollows, IsExpr, AreSteps, IsOperand, IsSimple, IsPrefix, IsVariable, IsCall, IsParen, IsHead, AreSuffixes, IsSuffix, IsArgs, AreExprs, IsTable, AreFields, IsField, IsFuncBody, IsBlock, AreStats, IsReturn, IsStat, AreTargets, IsArm, AreArms, IsElse, IsForStep, IsSemicolon, AreNames, AreParams, AreDeclared, IsPath, IsMethod}
 use Rattle.luf_tree.proofs.LevelEquations as lv
+use Rattle.luf_parse.specs.inner.Parts.{AreBounds, bounds_levels}
 use Rattle.luf_parse.specs.inner.Reads.{Found}
+use Rattle.luf_parse.specs.declared.loops.Bounds.{Bounds}
 use Rattle.luf_parse.specs.declared.prefixes.Shape.{Shape}
 use Rattle.luf_parse.specs.declared.prefixes.Shape.TheVariants as shape
 use Rattle.luf_parse.specs.inner.Shapes.{IsShaped}
@@ -121,19 +123,29 @@ pub for_in_found : {toks : List Tok} {i j k l o p q r left : ℕ} {es : List Exp
 for_in_found {toks} {i} {j} {k} {l} {o} {p} {q} {r} {left} {es} {names} {body} t h t2 h2 t3 h3 =
     let n = t.next in let n2 = t2.next in let n3 = t3.next in record { is = g.for_in_stat t h.is t2 h2.is t3 h3.is.0 h3.is.1; ends = record { forward = omega arith; within = omega arith }; level = omega (arith, lv.for_in_levels i r names es body) }
 
-pub for_found : {toks : List Tok} {i j k l m n o p q r s left : ℕ} {first limit : Expr} {step : Option Expr} {body : Block}
+-- the bounds of a `for` with a count, up to its `do`
+pub bounds_found : {toks : List Tok} {i n p q left : ℕ} {first limit : Expr} {step : Option Expr}
+    → Found toks (i + 1) (out-Expr first).to left (expr_levels first) (IsExpr toks 1 i (out-Expr first).to first)
+    → IsToken toks (out-Expr first).to (Sign sign.Comma) n
+    → Found toks (n + 1) (out-Expr limit).to left (expr_levels limit) (IsExpr toks 1 n (out-Expr limit).to limit)
+    → Found toks (out-Expr limit).to p left (if_there (option_map expr_levels step)) (IsForStep toks (out-Expr limit).to p step)
+    → IsToken toks p (Word word.Do) q
+    → q ≤ length toks
+    → Found toks (i + 1) q left (max (max (expr_levels first) (expr_levels limit)) (if_there (option_map expr_levels step))) (AreBounds toks i (record { first = first; limit = limit; step = step; opener = p; inside = q }))
+bounds_found {toks} {i} {n} {p} {q} {left} {first} {limit} {step} h t h2 h3 t2 w =
+    let n1 = t.next in let n2 = t2.next in
+    record { is = record { second = n; first = h.is; comma = t; limit = h2.is; step = h3.is; opener = t2 }; ends = record { forward = omega arith; within = w }; level = omega arith }
+
+pub for_found : {toks : List Tok} {i j k l r s left : ℕ} {bounds : Bounds} {body : Block}
     → IsToken toks i (Word word.For) j
     → IsToken toks j Name k
     → IsToken toks k (Sign sign.Assign) l
-    → Found toks (l + 1) m left (expr_levels first) (IsExpr toks 1 l m first)
-    → IsToken toks m (Sign sign.Comma) n
-    → Found toks (n + 1) o left (expr_levels limit) (IsExpr toks 1 n o limit)
-    → Found toks o p left (if_there (option_map expr_levels step)) (IsForStep toks o p step)
-    → IsToken toks p (Word word.Do) q
-    → Found toks (q + 1) s left (block_levels body + 1) (IsBlock toks q r body × IsToken toks r (Word word.End) s)
-    → Found toks (i + 1) s left (stat_levels (statement i s (stat.For j first limit step body))) (IsStat toks i s (statement i s (stat.For j first limit step body)))
-for_found {toks} {i} {j} {k} {l} {m} {n} {o} {p} {q} {r} {s} {left} {first} {limit} {step} {body} t t2 t3 h t4 h2 h3 t5 h4 =
-    let n1 = t.next in let n2 = t2.next in let n3 = t3.next in let n4 = t4.next in let n5 = t5.next in record { is = g.for_stat t t2 t3 h.is t4 h2.is h3.is t5 h4.is.0 h4.is.1; ends = record { forward = omega arith; within = omega arith }; level = omega (arith, lv.for_levels i s j first limit step body) }
+    → Found toks (l + 1) bounds.inside left (bounds_levels bounds) (AreBounds toks l bounds)
+    → Found toks (bounds.inside + 1) s left (block_levels body + 1) (IsBlock toks bounds.inside r body × IsToken toks r (Word word.End) s)
+    → Found toks (i + 1) s left (stat_levels (statement i s (stat.For j bounds.first bounds.limit bounds.step body))) (IsStat toks i s (statement i s (stat.For j bounds.first bounds.limit bounds.step body)))
+for_found {toks} {i} {j} {k} {l} {r} {s} {left} {bounds} {body} t t2 t3 h h2 =
+    let n1 = t.next in let n2 = t2.next in let n3 = t3.next in
+    record { is = g.for_stat t t2 t3 h.is.first h.is.comma h.is.limit h.is.step h.is.opener h2.is.0 h2.is.1; ends = record { forward = omega arith; within = omega arith }; level = omega (arith, lv.for_levels i s j bounds.first bounds.limit bounds.step body) }
 
 pub function_stat_found : {toks : List Tok} {i j k l o left inner : ℕ} {path : List ℕ} {method : Option ℕ} {f : FuncBody}
     → IsToken toks i (Word word.Function) j

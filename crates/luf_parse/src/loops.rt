@@ -9,7 +9,7 @@ ghost use Rattle.luf_tree.specs.Level.{expr_levels, stat_levels, if_there};
 ghost use Rattle.luf_parse.specs.inner.Reads.{Found};
 ghost use Rattle.luf_parse.specs.inner.Exact.{Alone, Refutes};
 ghost use Rattle.luf_parse.specs.inner.Follow.{IsAssigned};
-ghost use Rattle.luf_parse.specs.inner.Parts.{ReadCount, ReadFor, ReadForStep};
+ghost use Rattle.luf_parse.specs.inner.Parts.{AreBounds, ReadBounds, ReadCount, ReadFor, ReadForStep, bounds_levels};
 
 use crate::blocks::ended_block;
 use crate::expressions::{expr, exprs};
@@ -21,6 +21,18 @@ use luf_lex::{Cut, Sign, Tok, Word};
 use luf_tree::{Expr, Stat};
 use sqlite_items::Boxed;
 use std::alloc::Global;
+
+/// The bounds of a `for` with a count, up to its `do`.
+#[derive(Debug, Drop)]
+pub struct Bounds {
+    pub first: Expr,
+    pub limit: Expr,
+    pub step: Option<Boxed<Expr>>,
+    /// The place of the `do`.
+    pub opener: u32,
+    /// The place behind it.
+    pub inside: u32,
+}
 
 /// A `for` statement behind its `for`.
 #[cycle(parse)]
@@ -57,13 +69,30 @@ fn count_stat(
     ensures only { IfOk result (Alone (ReadCount (toks_of cut.now) left at name from)) }
     ensures none { IfErr result (Refutes (toks_of cut.now) (ReadCount (toks_of cut.now) left at name from)) }
 {
-    let first = expr(alloc, cut, left, from, 1)?;
+    let bounds = count_bounds(alloc, cut, left, from)?;
+    let (body, to) = ended_block(alloc, cut, left, bounds.opener, bounds.inside)?;
+    made::count_stat(alloc, at, to, name, bounds, body)
+}
+
+/// `exp ',' exp [',' exp] 'do'`.
+#[cycle(parse)]
+fn count_bounds(alloc: Global, cut: &Cut, left: u32, at: u32) -> Result<Bounds, ParseErr>
+    ensures ok { IfOk result (λ b. Found (toks_of cut.now) (at + 1) b.inside left (bounds_levels b) (AreBounds (toks_of cut.now) at b)) }
+    ensures only { IfOk result (Alone (ReadBounds (toks_of cut.now) left at)) }
+    ensures none { IfErr result (Refutes (toks_of cut.now) (ReadBounds (toks_of cut.now) left at)) }
+{
+    let first = expr(alloc, cut, left, at, 1)?;
     let second = expect(cut, first.to, Tok::Sign(Sign::Comma))?;
     let limit = expr(alloc, cut, left, second, 1)?;
     let (step, opener) = for_step(alloc, cut, left, limit.to)?;
     let inside = expect(cut, opener, Tok::Word(Word::Do))?;
-    let (body, to) = ended_block(alloc, cut, left, opener, inside)?;
-    made::count_stat(alloc, at, to, name, first, limit, step, body)
+    Ok(Bounds {
+        first,
+        limit,
+        step,
+        opener,
+        inside,
+    })
 }
 
 /// `[',' exp]`, and the place after it.

@@ -5,6 +5,7 @@ ghost use Rattle.luf_tree.specs.declared.tree.FuncBody.{out-FuncBody};
 ghost use Rattle.luf_tree.specs.Grammar.{expression, statement};
 
 use crate::ParseErr;
+use crate::loops::Bounds;
 use luf_tree::{Block, Expr, ExprKind, FuncBody, Stat, StatKind, Step};
 use sqlite_items::{Boxed, Items};
 use std::alloc::Global;
@@ -128,12 +129,10 @@ pub fn count_stat(
     from: u32,
     to: u32,
     name: u32,
-    first: Expr,
-    limit: Expr,
-    step: Option<Boxed<Expr>>,
+    bounds: Bounds,
     body: Boxed<Block>,
 ) -> Result<Stat, ParseErr>
-    ensures made { IfOk result (λ s. s ≡ statement from to (StatKind.For name first limit step body)) }
+    ensures made { IfOk result (λ s. s ≡ statement from to (StatKind.For name bounds.first bounds.limit bounds.step body)) }
     ensures memory { IfErr result (λ e. e ≡ ParseErr.Memory) }
 {
     Ok(Stat {
@@ -141,9 +140,9 @@ pub fn count_stat(
         to,
         what: StatKind::For {
             name,
-            first: Boxed::new(alloc, first)?,
-            limit: Boxed::new(alloc, limit)?,
-            step,
+            first: Boxed::new(alloc, bounds.first)?,
+            limit: Boxed::new(alloc, bounds.limit)?,
+            step: bounds.step,
             body,
         },
     })

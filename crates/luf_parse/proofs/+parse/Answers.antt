@@ -16,7 +16,7 @@ use Rattle.luf_parse.specs.inner.Parts.{ReadChain, ReadCount, ReadFor, ReadFunct
 use Rattle.luf_parse.specs.inner.Shapes.{IsShaped}
 use Rattle.luf_parse.proofs.Joining.{joins_more, joins_last, joins_end, level_more, level_end}
 use Rattle.luf_parse.proofs.ExprParts.{made_block, made_body, made_args, string_arg_found, block_found, call_found, chain_found, dot_found, func_body_found, function_found, index_found, item_found, keyed_found, list_args_found, method_found, name_found, named_found, no_args_found, operand_found, operator_at, paren_found, power_found, prefix_found, return_nothing_found, return_values_found, simple_found, suffixed_found, table_arg_found, table_expr_found, table_found, unary_found, weaken, weaken_found}
-use Rattle.luf_parse.proofs.StatParts.{arm_found, ended_found, assign_found, call_shaped, do_found, else_found, for_found, for_in_found, for_step_found, function_stat_found, if_found, local_found, local_function_found, local_values_found, repeat_found, while_found}
+use Rattle.luf_parse.proofs.StatParts.{arm_found, ended_found, assign_found, call_shaped, do_found, else_found, bounds_found, for_found, for_in_found, for_step_found, function_stat_found, if_found, local_found, local_function_found, local_values_found, repeat_found, while_found}
 use Rattle.luf_parse.proofs.Exactness.{passes, refutes_by, refutes_form, refutes_first, refutes_next, refutes_triple, alone_form, alone_next, alone_is, alone_triple, alone_boxed, then_rest, ok_made, only_made, err_made, ok_form, err_form, ahead_more, ahead_last, ahead_end, ahead_refutes, is_at, not_at, list_more, list_last}
 use Rattle.luf_parse.proofs.ExprForms.{operand_inside, unary_form, power_form, simple_inside, function_form, table_expr_form, leaf_only, prefixed_form, table_form, fields_form, fields_end, keyed_form, named_form, item_form, exprs_form, prefix_form, head_name, head_form, paren_form, suffixes_form, dot_form, index_form, method_form, call_form, args_list, args_lone, lone_string, lone_table, steps_form, operand_form, grown_end, grown_form}
 use Rattle.luf_parse.proofs.StatForms.{begins_word, expr_stat_form, short_form, func_body_form, block_form, stats_form, last_form, stats_end, return_form, arms_form, arm_form, else_form, for_step_form, variable_prefix, targets_last, targets_form}
@@ -755,16 +755,22 @@ loops::for_stat-returns-clause-none t c = err_made (toks_of c.args.cut.now) (Rea
 
 pub loops::count_stat-returns-clause-ok : goal.loops::count_stat-returns-clause-ok
 loops::count_stat-returns-clause-ok t c =
-    ok_made (λ (s : Stat). Found (toks_of c.args.cut.now) (c.args.at + 1) (out-Stat s).to c.args.left (stat_levels s) (IsStat (toks_of c.args.cut.now) c.args.at (out-Stat s).to s)) _ c.count_stat.ensures.made (for_found c.requires.word c.requires.name.name c.requires.name.sign c.in_ok-first.ensures.ok c.in_ok-second.ensures.token c.in_ok-limit.ensures.ok c.in_ok-step.ensures.ok c.in_ok-inside.ensures.token c.in_ok-body.ensures.ok)
-
-pub loops::count_stat-returns-in_err-inside-clause-none : goal.loops::count_stat-returns-in_err-inside-clause-none
-loops::count_stat-returns-in_err-inside-clause-none t c = passes _ c.from_residual-in_err-inside.ensures.1 (refutes_next c.in_ok-first.ensures.only (refutes_next c.in_ok-second.ensures.only (refutes_next c.in_ok-limit.ensures.only (refutes_next c.in_ok-step.ensures.only (refutes_first c.in_err-inside.ensures.none)))))
+    ok_made (λ (s : Stat). Found (toks_of c.args.cut.now) (c.args.at + 1) (out-Stat s).to c.args.left (stat_levels s) (IsStat (toks_of c.args.cut.now) c.args.at (out-Stat s).to s)) _ c.count_stat.ensures.made (for_found c.requires.word c.requires.name.name c.requires.name.sign c.in_ok-bounds.ensures.ok c.in_ok-body.ensures.ok)
 
 pub loops::count_stat-returns-in_err-body-clause-none : goal.loops::count_stat-returns-in_err-body-clause-none
-loops::count_stat-returns-in_err-body-clause-none t c = passes _ c.from_residual-in_err-body.ensures.1 (refutes_next c.in_ok-first.ensures.only (refutes_next c.in_ok-second.ensures.only (refutes_next c.in_ok-limit.ensures.only (refutes_next c.in_ok-step.ensures.only (refutes_next c.in_ok-inside.ensures.only (refutes_first c.in_err-body.ensures.none))))))
+loops::count_stat-returns-in_err-body-clause-none t c = passes _ c.from_residual-in_err-body.ensures.1 (refutes_next c.in_ok-bounds.ensures.only (refutes_first c.in_err-body.ensures.none))
 
 pub loops::count_stat-returns-clause-only : goal.loops::count_stat-returns-clause-only
-loops::count_stat-returns-clause-only t c = only_made _ c.count_stat.ensures.made (alone_next c.in_ok-first.ensures.only (alone_next c.in_ok-second.ensures.only (alone_next c.in_ok-limit.ensures.only (alone_next c.in_ok-step.ensures.only (alone_next c.in_ok-inside.ensures.only (alone_next c.in_ok-body.ensures.only (λ y h. h)))))))
+loops::count_stat-returns-clause-only t c = only_made _ c.count_stat.ensures.made (alone_next c.in_ok-bounds.ensures.only (alone_next c.in_ok-body.ensures.only (λ y h. h)))
+
+pub loops::count_bounds-returns-clause-ok : goal.loops::count_bounds-returns-clause-ok
+loops::count_bounds-returns-clause-ok t c = bounds_found c.in_ok-first.ensures.ok c.in_ok-second.ensures.token c.in_ok-limit.ensures.ok c.in_ok-step.ensures.ok c.in_ok-inside.ensures.token c.in_ok-inside.ensures.within
+
+pub loops::count_bounds-returns-in_err-inside-clause-none : goal.loops::count_bounds-returns-in_err-inside-clause-none
+loops::count_bounds-returns-in_err-inside-clause-none t c = passes _ c.from_residual-in_err-inside.ensures.1 (refutes_next c.in_ok-first.ensures.only (refutes_next c.in_ok-second.ensures.only (refutes_next c.in_ok-limit.ensures.only (refutes_next c.in_ok-step.ensures.only (refutes_first c.in_err-inside.ensures.none)))))
+
+pub loops::count_bounds-returns-clause-only : goal.loops::count_bounds-returns-clause-only
+loops::count_bounds-returns-clause-only t c = alone_next c.in_ok-first.ensures.only (alone_next c.in_ok-second.ensures.only (alone_next c.in_ok-limit.ensures.only (alone_next c.in_ok-step.ensures.only (alone_next c.in_ok-inside.ensures.only (λ y h. h)))))
 
 pub loops::count_stat-returns-clause-none : goal.loops::count_stat-returns-clause-none
 loops::count_stat-returns-clause-none t c = err_made (toks_of c.args.cut.now) (ReadCount (toks_of c.args.cut.now) c.args.left c.args.at c.args.name c.args.from) _ c.count_stat.ensures.memory

@@ -126,6 +126,9 @@ decreases-loops::for_stat l = 64 * l.left + 50
 abbrev pub decreases-loops::count_stat : goal.decreases-loops::count_stat
 decreases-loops::count_stat l = 64 * l.left + 49
 
+abbrev pub decreases-loops::count_bounds : goal.decreases-loops::count_bounds
+decreases-loops::count_bounds l = 64 * l.left + 48
+
 abbrev pub decreases-loops::for_step : goal.decreases-loops::for_step
 decreases-loops::for_step l = 64 * l.left + 45
 

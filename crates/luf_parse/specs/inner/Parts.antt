@@ -1,6 +1,6 @@
 -- What the functions of the parser look for at a place: the parts of the grammar behind which no part goes on, and
 -- which enter no more levels than are left.
-use Rattle.std.specs.Prelude.{◌≡◌, ℕ, ◌+◌, ◌≤◌, Bool, true, false, Option, List, [], ◌∷◌, map, slice_get}
+use Rattle.std.specs.Prelude.{◌≡◌, ℕ, ◌+◌, ◌≤◌, Bool, true, false, Option, List, [], ◌∷◌, map, max, slice_get}
 use Rattle.std.specs.Option.{option_map}
 use Rattle.luf_lex.specs.declared.token.Tok.{Tok}
 use Rattle.luf_lex.specs.declared.token.Tok.TheVariants.{Name, Word, Sign}
@@ -25,6 +25,7 @@ use Rattle.luf_parse.specs.inner.Exact.{Then, Enters}
 use Rattle.luf_parse.specs.inner.Follow.{NotAt, IsAssigned, NotAssigned, continues_prefix, EndsOperand, EndsExpr, EndsExprs, EndsBlock, EndsStat, EndsArms, EndsField}
 use Rattle.luf_parse.specs.inner.Reads.{Part, begins_suffix}
 use Rattle.luf_parse.specs.inner.Shapes.{IsShaped, lone_args}
+use Rattle.luf_parse.specs.declared.loops.Bounds.{Bounds}
 use Rattle.luf_parse.specs.declared.prefixes.PrefixExpr.{PrefixExpr}
 use Rattle.luf_parse.specs.declared.prefixes.Shape.{Shape}
 use Rattle.luf_parse.specs.declared.prefixes.Shape.TheVariants.{Variable, Call, Paren}
@@ -209,11 +210,27 @@ ReadIf toks left i next =
 abbrev pub ReadForStep : List Tok → ℕ → ℕ → (Option Expr × ℕ) → Type 0
 ReadForStep toks left i r = Part (IsForStep toks i r.1 r.0) (At toks r.1 (Word word.Do)) (if_there (option_map expr_levels r.0)) left
 
+-- the bounds of a `for` with a count, from its first one to behind its `do`
+pub record AreBounds (toks : List Tok) (i : ℕ) (bounds : Bounds) : Type 0 where
+  pub second : ℕ
+  pub first : IsExpr toks 1 i (out-Expr bounds.first).to bounds.first
+  pub comma : IsToken toks (out-Expr bounds.first).to (Sign sign.Comma) second
+  pub limit : IsExpr toks 1 second (out-Expr bounds.limit).to bounds.limit
+  pub step : IsForStep toks (out-Expr bounds.limit).to bounds.opener bounds.step
+  pub opener : IsToken toks bounds.opener (Word word.Do) bounds.inside
+
+abbrev pub bounds_levels : Bounds → ℕ
+bounds_levels b = max (max (expr_levels b.first) (expr_levels b.limit)) (if_there (option_map expr_levels b.step))
+
+abbrev pub ReadBounds : List Tok → ℕ → ℕ → Bounds → Type 0
+ReadBounds toks left from =
+    Then (ReadExpr toks 1 left from) (λ first. Then (IsToken toks (out-Expr first).to (Sign sign.Comma)) (λ second. Then (ReadExpr toks 1 left second) (λ limit. Then (ReadForStep toks left (out-Expr limit).to) (λ step.
+    Then (IsToken toks step.1 (Word word.Do)) (λ inside bounds. bounds ≡ record { first = first; limit = limit; step = step.0; opener = step.1; inside = inside })))))
+
 -- `for` with a count, behind its `=`
 abbrev pub ReadCount : List Tok → ℕ → ℕ → ℕ → ℕ → Stat → Type 0
 ReadCount toks left i name from =
-    Then (ReadExpr toks 1 left from) (λ first. Then (IsToken toks (out-Expr first).to (Sign sign.Comma)) (λ second. Then (ReadExpr toks 1 left second) (λ limit. Then (ReadForStep toks left (out-Expr limit).to) (λ step.
-    Then (IsToken toks step.1 (Word word.Do)) (λ inside. Then (ReadEnded toks left inside) (λ r s. s ≡ statement i r.1 (stat.For name first limit step.0 r.0)))))))
+    Then (ReadBounds toks left from) (λ bounds. Then (ReadEnded toks left bounds.inside) (λ r s. s ≡ statement i r.1 (stat.For name bounds.first bounds.limit bounds.step r.0)))
 
 -- `for` with names, behind its `for`
 abbrev pub ReadForIn : List Tok → ℕ → ℕ → ℕ → Stat → Type 0
