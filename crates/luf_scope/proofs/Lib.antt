@@ -1,0 +1,6 @@
+mod FaultExamples
+pub mod Added
+pub mod TreeReads
+pub mod Solid
+pub mod Targets
+pub mod Lying

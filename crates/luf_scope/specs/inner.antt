@@ -1,0 +1,3 @@
+-- What only private functions cite, so that nothing here has to be believed.
+pub mod Parts
+pub mod Order

@@ -1,0 +1,16 @@
+//! What the names of a chunk mean: each local variable with its scope, and what each name refers to.
+#![tactic(auto)]
+
+mod adding;
+mod binder;
+mod fault;
+mod jump;
+mod occurrence;
+mod reading;
+
+pub use binder::{Binder, BinderKind, Role};
+pub use fault::{ScopeBad, ScopeErr, ScopeWhat, first_of};
+pub use jump::JumpRole;
+pub use luf_memory::Memory;
+pub use occurrence::Occurrence;
+pub use reading::occurrences;

@@ -1,0 +1,6 @@
+pub mod Complete
+pub mod Fixed
+pub mod Groups
+pub mod Loop
+pub mod Sound
+pub mod Written

@@ -1,0 +1,7 @@
+use Rattle.std.proofs.Common.{◌≡◌, ◌-◌}
+use Rattle.luf_undump.specs.Reading.{many_at, upvalue_at}
+use Rattle.luf_undump.proofs.Loop.{with_front}
+use Rattle.luf_undump.proofs.upvalue.upvalues.Given as goal
+
+abbrev pub invariant-loop : goal.invariant-loop
+invariant-loop l = with_front l.upvalues.items (many_at upvalue_at (l.count - l.counter) l.rest) ≡ many_at upvalue_at l.count l.bytes

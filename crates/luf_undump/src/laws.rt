@@ -1,0 +1,28 @@
+//! Laws of chunks.
+ghost use Rattle.std.specs.Prelude.{◌≡◌, ◌≤◌, ◌↔◌, ℕ, List, length, Ok, Err};
+ghost use Rattle.luf_proto.specs.Function.{Function};
+ghost use Rattle.luf_proto.specs.Chunk.{Fits, chunk_bytes};
+ghost use Rattle.luf_undump.specs.Grammar.{IsChunkOf};
+ghost use Rattle.luf_undump.specs.Readable.{IsReadable};
+ghost use Rattle.luf_undump.specs.Reading.{Wrong, chunk_at, most_levels};
+
+/// Bytes are read as a function exactly where they are its chunk.
+pub fn read_is_chunk()
+    ensures { (bytes : List ℕ) (f : Function) → (chunk_at bytes ≡ Ok f) ↔ IsChunkOf bytes f }
+{}
+
+/// Bytes are the chunk of one function at most.
+pub fn one_function()
+    ensures { (bytes : List ℕ) (f g : Function) → IsChunkOf bytes f → IsChunkOf bytes g → f ≡ g }
+{}
+
+/// The bytes that are written of a function are its chunk, so they are read as that function.
+pub fn written_is_read()
+    ensures chunk { (f : Function) → Fits f → IsReadable f most_levels → IsChunkOf (chunk_bytes f) f }
+    ensures read { (f : Function) → Fits f → IsReadable f most_levels → chunk_at (chunk_bytes f) ≡ Ok f }
+{}
+
+/// A field that is wrong begins among the bytes, or at their end.
+pub fn refused_within()
+    ensures { (bytes : List ℕ) (e : Wrong) → chunk_at bytes ≡ Err e → e.left ≤ length bytes }
+{}
