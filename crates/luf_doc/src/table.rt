@@ -140,7 +140,7 @@ fn reversed(alloc: Global, items: Items<Doc>) -> Result<Vec<Doc>, Memory>
     ensures { IfOk result (λ r. reverse r.items ≡ items) }
 {
     let mut items = items;
-    let mut left = Vec::new(alloc);
+    let mut left = Vec::with_capacity(alloc, items.len())?;
     while let Some(item) = items.pop() {
         left.push(item)?;
     }

@@ -31,12 +31,12 @@ column_more b bytes column reached whole most so_far is = so_far ∙ by (is_line
 
 -- a break
 pub break_shows : (page : Page) (old new : Sheet) (level : ℕ) (blank : Bool) (done : List Piece) → Shows page old done → old.begun ≡ true
-    → new.bytes.items ≡ ((old.bytes.items ++ written_line_end page) ++ cond blank (written_line_end page) []) ++ written_indentation page level
+    → new.bytes.behind ≡ ((old.bytes.behind ++ written_line_end page) ++ cond blank (written_line_end page) []) ++ written_indentation page level
     → new.column ≡ min (page.unit * level) 4294967295 → new.begun ≡ old.begun → Shows page new (broken level blank done)
 break_shows page old new level blank done shown begun bytes_are column_is begun_is =
     subst (λ (g : Bool). Shows page new (cond g (indentation level ∷ cond blank (empty_line ∷ line_end ∷ done) (line_end ∷ done)) done)) (sym begun ∙ shown.begun) (by blank bytes_are)
   where
-    by : (b : Bool) → new.bytes.items ≡ ((old.bytes.items ++ written_line_end page) ++ cond b (written_line_end page) []) ++ written_indentation page level
+    by : (b : Bool) → new.bytes.behind ≡ ((old.bytes.behind ++ written_line_end page) ++ cond b (written_line_end page) []) ++ written_indentation page level
         → Shows page new (indentation level ∷ cond b (empty_line ∷ line_end ∷ done) (line_end ∷ done))
     by true are = record {
       bytes = are ∙ ap (λ bs. ((bs ++ written_line_end page) ++ written_line_end page) ++ written_indentation page level) shown.bytes;
@@ -44,7 +44,7 @@ break_shows page old new level blank done shown begun bytes_are column_is begun_
       begun = begun_is ∙ begun;
     }
     by false are = record {
-      bytes = are ∙ ap (λ bs. bs ++ written_indentation page level) (append-nil (old.bytes.items ++ written_line_end page)) ∙ ap (λ bs. (bs ++ written_line_end page) ++ written_indentation page level) shown.bytes;
+      bytes = are ∙ ap (λ bs. bs ++ written_indentation page level) (append-nil (old.bytes.behind ++ written_line_end page)) ∙ ap (λ bs. (bs ++ written_line_end page) ++ written_indentation page level) shown.bytes;
       column = column_is ∙ ap (λ n. min n 4294967295) (sym (zero-add (page.unit * level)));
       begun = begun_is ∙ begun;
     }

@@ -2,4 +2,5 @@
 pub mod Ahead
 pub mod Leads
 pub mod Modes
+pub mod Parted
 pub mod Shows

@@ -19,7 +19,8 @@ pub(crate) fn write_gap(
 ) -> Result<(), Memory>
     requires page { page.now.unit ≤ 16 }
     requires level { level + 1 < 2 ^ 32 }
-    ensures { OnOk result ((done : List Piece) → Shows page.now sheet.old done → Shows page.now sheet.new (lay_gap gap.now (mode_as mode) level gap.now.notes done)) }
+    ensures shown { OnOk result ((done : List Piece) → Shows page.now sheet.old done → Shows page.now sheet.new (lay_gap gap.now (mode_as mode) level gap.now.notes done)) }
+    ensures before { sheet.new.bytes.before ≡ sheet.old.bytes.before }
 {
     let must = must_break(gap.chance, mode);
     if !gap.notes.is_empty() {
@@ -41,7 +42,8 @@ fn write_notes(
 ) -> Result<(), Memory>
     requires page { page.now.unit ≤ 16 }
     requires level { level + 1 < 2 ^ 32 }
-    ensures { OnOk result ((done : List Piece) → Shows page.now sheet.old done → Shows page.now sheet.new (lay_notes gap.now level must false false gap.now.notes done)) }
+    ensures shown { OnOk result ((done : List Piece) → Shows page.now sheet.old done → Shows page.now sheet.new (lay_notes gap.now level must false false gap.now.notes done)) }
+    ensures before { sheet.new.bytes.before ≡ sheet.old.bytes.before }
 {
     let inner = level_of_notes(gap, level);
     let mut had = false;

@@ -16,6 +16,7 @@ use crate::sheet::Sheet;
 use luf_doc::{DocTable, Ledger, Node, NodeKind, Page, Steps};
 use luf_memory::Memory;
 use std::alloc::Global;
+use std::mem;
 
 /// Appends the layout of the document of a table, in at most 6 reads of a row for each node. The only error is that no
 /// memory was found; it leaves `into` as it was, and the steps stay counted. Time is linear in the nodes and the bytes of
@@ -40,14 +41,21 @@ pub fn lay_table<L: Ledger>(
         page,
         leads: leads.as_slice(),
     };
-    let mut sheet = Sheet::new(alloc);
+    let mut sheet = Sheet::new(mem::replace(into, Vec::new(alloc)));
     let outside = Setting {
         mode: Mode::Outside,
         level: 0,
     };
-    walk.lay(0, t.nodes(), outside, &mut sheet, steps)?;
-    into.extend_from_slice(sheet.bytes.as_slice())?;
-    Ok(())
+    match walk.lay(0, t.nodes(), outside, &mut sheet, steps) {
+        Ok(()) => {
+            *into = sheet.bytes.into_vec();
+            Ok(())
+        }
+        Err(e) => {
+            *into = sheet.bytes.undone();
+            Err(e)
+        }
+    }
 }
 
 /// A table with the lead of each row, and the page.
@@ -83,6 +91,7 @@ impl Walk<'_> {
         requires end { end ≡ id + node_count (part (document_of self.now.table.now) id) }
         requires level { at.level ≤ id }
         ensures ok { OnOk result ((done : List Piece) → Shows self.now.page.now sheet.old done → Shows self.now.page.now sheet.new (lay self.now.page.now (mode_as at.mode) at.level (lead_at (document_of self.now.table.now) end) (part (document_of self.now.table.now) id) done)) }
+        ensures before { sheet.new.bytes.before ≡ sheet.old.bytes.before }
         ensures steps { steps.new ≤ steps.old + node_count (part (document_of self.now.table.now) id) }
     {
         let node = self.table.node(id, steps);
@@ -128,6 +137,7 @@ impl Walk<'_> {
         requires children { node.now.children ≡ places (id + 1) (inside (part (document_of self.now.table.now) id)) }
         requires level { at.level ≤ id + 1 }
         ensures ok { OnOk result ((done : List Piece) → Shows self.now.page.now sheet.old done → Shows self.now.page.now sheet.new (lay_all self.now.page.now (mode_as at.mode) at.level (lead_at (document_of self.now.table.now) end) (inside (part (document_of self.now.table.now) id)) done)) }
+        ensures before { sheet.new.bytes.before ≡ sheet.old.bytes.before }
         ensures steps { steps.new ≤ steps.old + all_count (inside (part (document_of self.now.table.now) id)) }
     {
         let children = node.children.as_slice();
@@ -141,7 +151,8 @@ impl Walk<'_> {
 
 /// Writes a `,` in a broken group.
 fn write_trail(mode: Mode, sheet: &mut Sheet) -> Result<(), Memory>
-    ensures { OnOk result ((page : Page) (done : List Piece) → Shows page sheet.old done → Shows page sheet.new (cond (is_broken (mode_as mode)) (word comma ∷ done) done)) }
+    ensures shown { OnOk result ((page : Page) (done : List Piece) → Shows page sheet.old done → Shows page sheet.new (cond (is_broken (mode_as mode)) (word comma ∷ done) done)) }
+    ensures before { sheet.new.bytes.before ≡ sheet.old.bytes.before }
 {
     if is_broken(mode) {
         sheet.put(b",")

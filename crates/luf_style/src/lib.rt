@@ -6,6 +6,7 @@ mod lay;
 mod lead;
 mod mode;
 mod sheet;
+mod tail;
 #[cfg(test)]
 mod tests;
 

@@ -5,26 +5,27 @@ ghost use Rattle.luf_doc.specs.Flat.{is_line_end};
 ghost use Rattle.luf_doc.specs.Layout.{Piece, word, note, spaced, broken, unbroken, column_after, written_line_end, written_indentation};
 ghost use Rattle.luf_style.specs.inner.Shows.{Shows};
 
+use crate::tail::Tail;
 use luf_doc::{Chance, Page};
 use luf_memory::Memory;
-use std::alloc::Global;
 
-/// The bytes of the pieces that have been written, the columns of their last line, or the greatest number where they
-/// are more, and whether something has been written.
+/// The bytes of the pieces that have been written, behind what was there, the columns of their last line, or the greatest
+/// number where they are more, and whether something has been written.
 #[derive(Drop)]
 pub(crate) struct Sheet {
-    pub bytes: Vec<u8>,
+    pub bytes: Tail,
     pub column: u32,
     pub begun: bool,
 }
 
 impl Sheet {
-    /// Nothing is written.
-    pub fn new(alloc: Global) -> Sheet
-        ensures { (page : Page) → Shows page result [] }
+    /// Nothing is written behind the bytes.
+    pub fn new(bytes: Vec<u8>) -> Sheet
+        ensures shown { (page : Page) → Shows page result [] }
+        ensures before { result.bytes.before ≡ bytes.items }
     {
         Sheet {
-            bytes: Vec::new(alloc),
+            bytes: Tail::new(bytes),
             column: 0,
             begun: false,
         }
@@ -34,6 +35,7 @@ impl Sheet {
     pub fn put(&mut self, bytes: &[u8]) -> Result<(), Memory>
         ensures word { OnOk result ((page : Page) (done : List Piece) → Shows page self.old done → Shows page self.new (word bytes.now ∷ done)) }
         ensures note { OnOk result ((page : Page) (done : List Piece) → Shows page self.old done → Shows page self.new (note bytes.now ∷ done)) }
+        ensures before { self.new.bytes.before ≡ self.old.bytes.before }
     {
         self.bytes.extend_from_slice(bytes)?;
         self.column = column_behind(bytes, self.column);
@@ -50,7 +52,8 @@ impl Sheet {
         blank: bool,
     ) -> Result<(), Memory>
         requires { page.now.unit ≤ 16 }
-        ensures { OnOk result ((done : List Piece) → Shows page.now self.old done → Shows page.now self.new (cond breaks (broken level blank done) (spaced done))) }
+        ensures shown { OnOk result ((done : List Piece) → Shows page.now self.old done → Shows page.now self.new (cond breaks (broken level blank done) (spaced done))) }
+        ensures before { self.new.bytes.before ≡ self.old.bytes.before }
     {
         if breaks {
             self.break_line(page, level, blank)
@@ -61,7 +64,8 @@ impl Sheet {
 
     /// Writes what a gap without notes does that need not break.
     pub fn join(&mut self, chance: Chance) -> Result<(), Memory>
-        ensures { OnOk result ((page : Page) (done : List Piece) → Shows page self.old done → Shows page self.new (unbroken chance done)) }
+        ensures shown { OnOk result ((page : Page) (done : List Piece) → Shows page self.old done → Shows page self.new (unbroken chance done)) }
+        ensures before { self.new.bytes.before ≡ self.old.bytes.before }
     {
         match chance {
             Chance::Tight | Chance::Soft | Chance::Hard => Ok(()),
@@ -70,7 +74,8 @@ impl Sheet {
     }
 
     fn space(&mut self) -> Result<(), Memory>
-        ensures { OnOk result ((page : Page) (done : List Piece) → Shows page self.old done → Shows page self.new (spaced done)) }
+        ensures shown { OnOk result ((page : Page) (done : List Piece) → Shows page self.old done → Shows page self.new (spaced done)) }
+        ensures before { self.new.bytes.before ≡ self.old.bytes.before }
     {
         if self.begun {
             self.bytes.push(b' ')?;
@@ -82,7 +87,8 @@ impl Sheet {
     /// Writes a break, with an empty line where `blank` is set.
     pub fn break_line(&mut self, page: &Page, level: u32, blank: bool) -> Result<(), Memory>
         requires { page.now.unit ≤ 16 }
-        ensures { OnOk result ((done : List Piece) → Shows page.now self.old done → Shows page.now self.new (broken level blank done)) }
+        ensures shown { OnOk result ((done : List Piece) → Shows page.now self.old done → Shows page.now self.new (broken level blank done)) }
+        ensures before { self.new.bytes.before ≡ self.old.bytes.before }
     {
         if self.begun {
             write_line_ends(blank, &mut self.bytes)?;
@@ -115,16 +121,18 @@ fn column_behind_byte(b: u8, column: u32) -> u32
 }
 
 /// Appends a line end.
-fn write_line_end(into: &mut Vec<u8>) -> Result<(), Memory>
-    ensures { OnOk result ((page : Page) → into.new.items ≡ into.old.items ++ written_line_end page) }
+fn write_line_end(into: &mut Tail) -> Result<(), Memory>
+    ensures behind { OnOk result ((page : Page) → into.new.behind ≡ into.old.behind ++ written_line_end page) }
+    ensures before { into.new.before ≡ into.old.before }
 {
     into.push(b'\n')?;
     Ok(())
 }
 
 /// Appends a line end, and a second one where `blank` is set.
-fn write_line_ends(blank: bool, into: &mut Vec<u8>) -> Result<(), Memory>
-    ensures { OnOk result ((page : Page) → into.new.items ≡ (into.old.items ++ written_line_end page) ++ cond blank (written_line_end page) []) }
+fn write_line_ends(blank: bool, into: &mut Tail) -> Result<(), Memory>
+    ensures behind { OnOk result ((page : Page) → into.new.behind ≡ (into.old.behind ++ written_line_end page) ++ cond blank (written_line_end page) []) }
+    ensures before { into.new.before ≡ into.old.before }
 {
     write_line_end(into)?;
     if blank {
@@ -134,9 +142,10 @@ fn write_line_ends(blank: bool, into: &mut Vec<u8>) -> Result<(), Memory>
 }
 
 /// Appends the indentation of a level.
-fn write_indentation(page: &Page, level: u32, into: &mut Vec<u8>) -> Result<(), Memory>
+fn write_indentation(page: &Page, level: u32, into: &mut Tail) -> Result<(), Memory>
     requires { page.now.unit ≤ 16 }
-    ensures { OnOk result (into.new.items ≡ into.old.items ++ written_indentation page.now level) }
+    ensures behind { OnOk result (into.new.behind ≡ into.old.behind ++ written_indentation page.now level) }
+    ensures before { into.new.before ≡ into.old.before }
 {
     if page.tabs {
         write_repeated(b'\t', u64::from(level), into)
@@ -146,8 +155,9 @@ fn write_indentation(page: &Page, level: u32, into: &mut Vec<u8>) -> Result<(), 
 }
 
 /// Appends a byte `count` times.
-fn write_repeated(byte: u8, count: u64, into: &mut Vec<u8>) -> Result<(), Memory>
-    ensures { OnOk result (into.new.items ≡ into.old.items ++ replicate count byte) }
+fn write_repeated(byte: u8, count: u64, into: &mut Tail) -> Result<(), Memory>
+    ensures behind { OnOk result (into.new.behind ≡ into.old.behind ++ replicate count byte) }
+    ensures before { into.new.before ≡ into.old.before }
 {
     for _i in 0..count {
         into.push(byte)?;

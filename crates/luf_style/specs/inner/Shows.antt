@@ -10,6 +10,6 @@ written page [] = []
 written page (p ∷ done) = written page done ++ bytes_of page p
 
 pub record Shows (page : Page) (sheet : Sheet) (done : List Piece) : Type 0 where
-  pub bytes : sheet.bytes.items ≡ written page done
+  pub bytes : sheet.bytes.behind ≡ written page done
   pub column : sheet.column ≡ min (column_of page done) 4294967295
   pub begun : sheet.begun ≡ is_begun done

@@ -1,5 +1,5 @@
 -- What is laid of each kind of node, and of the nodes inside one.
-use Rattle.std.proofs.Common.{rules, ◌≡◌, ◌+◌, ◌∙◌, ℕ, List, ◌∷◌, ap, sym, subst, arith, min, drop, get_or, cond}
+use Rattle.std.proofs.Common.{rules, ◌≡◌, ◌+◌, ◌∙◌, ℕ, List, ◌∷◌, refl, ap, sym, subst, arith, min, drop, get_or, cond}
 use Rattle.std.proofs.lemmas.List.{drop_more, drop_all, get_or-drop}
 use Rattle.std.proofs.lemmas.Result.{on_ok_weaker}
 use Rattle.luf_doc.specs.declared.table.Node.{Node}
@@ -66,7 +66,7 @@ lay-returns-in-Gap-clause-ok g t c =
     on_ok_weaker c.write_gap.result
     (λ written done shown. subst (Shows c.args.self.now.page.now c.write_gap.new.sheet)
     (sym (lay_between c.args.self.now.page.now (mode_as c.args.at.mode) c.args.at.level (lead_at d c.args.end) (part d c.args.id) done c.in-Gap.gap (sym (ap (λ (r : Node). r.kind) node) ∙ c.in-Gap.is)))
-    (written done shown)) c.write_gap.ensures
+    (written done shown)) c.write_gap.ensures.shown
 
 pub lay-returns-in-Gap-clause-steps : goal.lay-returns-in-Gap-clause-steps
 lay-returns-in-Gap-clause-steps g t c = omega (arith, some_count (part (document_of c.args.self.now.table.now) c.args.id))
@@ -78,7 +78,7 @@ lay-returns-in-Trail-clause-ok g t c =
     on_ok_weaker c.write_trail.result
     (λ written done shown. subst (Shows c.args.self.now.page.now c.write_trail.new.sheet)
     (sym (lay_comma c.args.self.now.page.now (mode_as c.args.at.mode) c.args.at.level (lead_at d c.args.end) (part d c.args.id) done (sym (ap (λ (r : Node). r.kind) node) ∙ c.in-Trail.is)))
-    (written c.args.self.now.page.now done shown)) c.write_trail.ensures
+    (written c.args.self.now.page.now done shown)) c.write_trail.ensures.shown
 
 pub lay-returns-in-Trail-clause-steps : goal.lay-returns-in-Trail-clause-steps
 lay-returns-in-Trail-clause-steps g t c = omega (arith, some_count (part (document_of c.args.self.now.table.now) c.args.id))
@@ -119,9 +119,12 @@ lay-returns-in-Seq-clause-ok g t c =
     (written done shown)) c.lay_inside-in-Seq.ensures.ok
 
 pub lay_inside-loop-n-init : goal.lay_inside-loop-n-init
-lay_inside-loop-n-init g t c =
-    laying_first (document_of c.args.self.now.table.now) c.args.self.now.page.now (mode_as c.args.at.mode) c.args.at.level c.args.id c.args.end
-    c.as_slice-children.result.now c.args.sheet.now c.args.steps.now c.requires.within c.requires.end (c.as_slice-children.ensures ∙ c.requires.children)
+lay_inside-loop-n-init g t c = record {
+  laying =
+      laying_first (document_of c.args.self.now.table.now) c.args.self.now.page.now (mode_as c.args.at.mode) c.args.at.level c.args.id c.args.end
+      c.as_slice-children.result.now c.args.sheet.now c.args.steps.now c.requires.within c.requires.end (c.as_slice-children.ensures ∙ c.requires.children);
+  before = refl;
+}
 
 pub lay_inside-lay-requires : goal.lay_inside-lay-requires
 lay_inside-lay-requires g t c κs within =
@@ -131,7 +134,7 @@ lay_inside-lay-requires g t c κs within =
     let child = get_or kids n 0 in
     let left : drop n kids ≡ child ∷ drop (n + 1) kids = drop_more kids n 0 c.loop-n-test.true in
     let known : Laying d c.args.self.now.page.now (mode_as c.args.at.mode) c.args.at.level c.args.id c.args.end (child ∷ drop (n + 1) kids) c.args.sheet.now c.loop-n.sheet c.args.steps.now c.loop-n.steps =
-    subst (λ (ids : List ℕ). Laying d c.args.self.now.page.now (mode_as c.args.at.mode) c.args.at.level c.args.id c.args.end ids c.args.sheet.now c.loop-n.sheet c.args.steps.now c.loop-n.steps) left c.loop-n.invariant in
+    subst (λ (ids : List ℕ). Laying d c.args.self.now.page.now (mode_as c.args.at.mode) c.args.at.level c.args.id c.args.end ids c.args.sheet.now c.loop-n.sheet c.args.steps.now c.loop-n.steps) left c.loop-n.invariant.laying in
     let next = next_child d c.args.self.now.page.now (mode_as c.args.at.mode) c.args.at.level c.args.id c.args.end child (drop (n + 1) kids) c.args.sheet.now c.loop-n.sheet c.args.steps.now c.loop-n.steps known in
     let end_is : c.end_of_child-child_end.result ≡ child + node_count (part d child) =
     c.end_of_child-child_end.ensures ∙ sym (get_or-drop n kids 1 c.args.end) ∙ ap (λ (ids : List ℕ). get_or ids 1 c.args.end) left ∙ next.end_is in
@@ -147,13 +150,17 @@ lay_inside-loop-n-preserved g t c =
     let child = get_or kids n 0 in
     let left : drop n kids ≡ child ∷ drop (n + 1) kids = drop_more kids n 0 c.loop-n-test.true in
     let known : Laying d c.args.self.now.page.now (mode_as c.args.at.mode) c.args.at.level c.args.id c.args.end (child ∷ drop (n + 1) kids) c.args.sheet.now c.loop-n.sheet c.args.steps.now c.loop-n.steps =
-    subst (λ (ids : List ℕ). Laying d c.args.self.now.page.now (mode_as c.args.at.mode) c.args.at.level c.args.id c.args.end ids c.args.sheet.now c.loop-n.sheet c.args.steps.now c.loop-n.steps) left c.loop-n.invariant in
+    subst (λ (ids : List ℕ). Laying d c.args.self.now.page.now (mode_as c.args.at.mode) c.args.at.level c.args.id c.args.end ids c.args.sheet.now c.loop-n.sheet c.args.steps.now c.loop-n.steps) left c.loop-n.invariant.laying in
     let next = next_child d c.args.self.now.page.now (mode_as c.args.at.mode) c.args.at.level c.args.id c.args.end child (drop (n + 1) kids) c.args.sheet.now c.loop-n.sheet c.args.steps.now c.loop-n.steps known in
     let end_is : c.end_of_child-child_end.result ≡ child + node_count (part d child) =
     c.end_of_child-child_end.ensures ∙ sym (get_or-drop n kids 1 c.args.end) ∙ ap (λ (ids : List ℕ). get_or ids 1 c.args.end) left ∙ next.end_is in
-    laying_next d c.args.self.now.page.now (mode_as c.args.at.mode) c.args.at.level c.args.id c.args.end child (drop (n + 1) kids) c.args.sheet.now c.loop-n.sheet c.args.steps.now c.loop-n.steps known
-    c.lay.new.sheet c.lay.new.steps c.in_ok-lay.ensures.steps
-    (λ done shown. subst (λ e. Shows c.args.self.now.page.now c.lay.new.sheet (lay c.args.self.now.page.now (mode_as c.args.at.mode) c.args.at.level (lead_at d e) (part d child) done)) end_is (c.in_ok-lay.ensures.ok done shown))
+    record {
+      laying =
+          laying_next d c.args.self.now.page.now (mode_as c.args.at.mode) c.args.at.level c.args.id c.args.end child (drop (n + 1) kids) c.args.sheet.now c.loop-n.sheet c.args.steps.now c.loop-n.steps known
+          c.lay.new.sheet c.lay.new.steps c.in_ok-lay.ensures.steps
+          (λ done shown. subst (λ e. Shows c.args.self.now.page.now c.lay.new.sheet (lay c.args.self.now.page.now (mode_as c.args.at.mode) c.args.at.level (lead_at d e) (part d child) done)) end_is (c.in_ok-lay.ensures.ok done shown));
+      before = c.in_ok-lay.ensures.before ∙ c.loop-n.invariant.before;
+    }
 
 pub lay_inside-returns-in_err-lay-clause-steps : goal.lay_inside-returns-in_err-lay-clause-steps
 lay_inside-returns-in_err-lay-clause-steps g t c =
@@ -163,7 +170,7 @@ lay_inside-returns-in_err-lay-clause-steps g t c =
     let child = get_or kids n 0 in
     let left : drop n kids ≡ child ∷ drop (n + 1) kids = drop_more kids n 0 c.loop-n-test.true in
     let known : Laying d c.args.self.now.page.now (mode_as c.args.at.mode) c.args.at.level c.args.id c.args.end (child ∷ drop (n + 1) kids) c.args.sheet.now c.loop-n.sheet c.args.steps.now c.loop-n.steps =
-    subst (λ (ids : List ℕ). Laying d c.args.self.now.page.now (mode_as c.args.at.mode) c.args.at.level c.args.id c.args.end ids c.args.sheet.now c.loop-n.sheet c.args.steps.now c.loop-n.steps) left c.loop-n.invariant in
+    subst (λ (ids : List ℕ). Laying d c.args.self.now.page.now (mode_as c.args.at.mode) c.args.at.level c.args.id c.args.end ids c.args.sheet.now c.loop-n.sheet c.args.steps.now c.loop-n.steps) left c.loop-n.invariant.laying in
     let next = next_child d c.args.self.now.page.now (mode_as c.args.at.mode) c.args.at.level c.args.id c.args.end child (drop (n + 1) kids) c.args.sheet.now c.loop-n.sheet c.args.steps.now c.loop-n.steps known in
     let counted = next.counted in
     let steps = c.in_err-lay.ensures.steps in
@@ -172,9 +179,9 @@ lay_inside-returns-in_err-lay-clause-steps g t c =
 pub lay_inside-returns-clause-ok : goal.lay_inside-returns-clause-ok
 lay_inside-returns-clause-ok g t c =
     (laying_last (document_of c.args.self.now.table.now) c.args.self.now.page.now (mode_as c.args.at.mode) c.args.at.level c.args.id c.args.end
-    (drop c.loop-n.n c.as_slice-children.result.now) c.args.sheet.now c.loop-n.sheet c.args.steps.now c.loop-n.steps c.loop-n.invariant (drop_all c.loop-n.n c.as_slice-children.result.now c.loop-n-test.false)).1
+    (drop c.loop-n.n c.as_slice-children.result.now) c.args.sheet.now c.loop-n.sheet c.args.steps.now c.loop-n.steps c.loop-n.invariant.laying (drop_all c.loop-n.n c.as_slice-children.result.now c.loop-n-test.false)).1
 
 pub lay_inside-returns-clause-steps : goal.lay_inside-returns-clause-steps
 lay_inside-returns-clause-steps g t c =
     (laying_last (document_of c.args.self.now.table.now) c.args.self.now.page.now (mode_as c.args.at.mode) c.args.at.level c.args.id c.args.end
-    (drop c.loop-n.n c.as_slice-children.result.now) c.args.sheet.now c.loop-n.sheet c.args.steps.now c.loop-n.steps c.loop-n.invariant (drop_all c.loop-n.n c.as_slice-children.result.now c.loop-n-test.false)).0
+    (drop c.loop-n.n c.as_slice-children.result.now) c.args.sheet.now c.loop-n.sheet c.args.steps.now c.loop-n.steps c.loop-n.invariant.laying (drop_all c.loop-n.n c.as_slice-children.result.now c.loop-n-test.false)).0
