@@ -67,7 +67,7 @@ module _ (spelled : Spelling) (occurrences : List Occurrence) where
 
   -- a local variable is active at the label and not at the goto, and the label is not at its block's end
   abbrev pub enters : GotoAt → LabelAt → LocalVariable → Bool
-  enters g l v = not l.last && is_active l.token v && not (is_active g.token v)
+  enters g l v = not l.at_end && is_active l.token v && not (is_active g.token v)
 
   abbrev pub into_scope : GotoAt → Option ℕ
   into_scope g = when (option_map_or (λ l. list_any (enters g l.1) (locals_of spelled occurrences)) (target (labels_of spelled occurrences) g) false) g.token

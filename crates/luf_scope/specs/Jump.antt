@@ -17,7 +17,7 @@ pub record LabelAt : Type 0 where
   pub function : Option ℕ
   pub from : ℕ
   pub to : ℕ
-  pub last : Bool
+  pub at_end : Bool
 
 -- a `goto`: its token, the token of its label's name, that name, and the function that holds it
 pub record GotoAt : Type 0 where
@@ -27,7 +27,7 @@ pub record GotoAt : Type 0 where
   pub function : Option ℕ
 
 abbrev pub label_by : Spelling → List FunctionAt → Occurrence → Option LabelAt
-label_by spelled functions (Label name from to last) = Some (record { token = name; name = spelled name; function = function_of functions name; from = from; to = to; last = last })
+label_by spelled functions (Label name from to at_end) = Some (record { token = name; name = spelled name; function = function_of functions name; from = from; to = to; at_end = at_end })
 label_by spelled functions _ = None
 
 abbrev pub goto_by : Spelling → List FunctionAt → Occurrence → Option GotoAt

@@ -156,7 +156,7 @@ pub fn plain_variable(e: &Expr) -> Option<u32>
 }
 
 // Whether a label counts as outside the local variables of its block: it is at its end, which is not `until`.
-pub fn is_last(until: bool, ended: bool) -> bool
+pub fn is_at_end(until: bool, ended: bool) -> bool
     ensures { result ≡ (not until && ended) }
 {
     !until && ended

@@ -54,13 +54,13 @@ pub enum Occurrence {
         from: u32,
         to: u32,
     },
-    /// The name of a label, and the block that holds it. `last` says that only labels and `;` follow it there, and that
+    /// The name of a label, and the block that holds it. `at_end` says that only labels and `;` follow it there, and that
     /// the block does not end at `until`.
     Label {
         name: u32,
         from: u32,
         to: u32,
-        last: bool,
+        at_end: bool,
     },
     /// `goto` and the name of its label.
     Goto {

@@ -5,7 +5,7 @@ ghost use Rattle.luf_scope.specs.Occurrences.{span_of, loop_of, target_of, occur
 ghost use Rattle.luf_scope.specs.inner.Parts.{held_by};
 
 use crate::adding::{
-    add, add_locals, add_loop_variables, add_method, add_parameters, add_path, is_last,
+    add, add_locals, add_loop_variables, add_method, add_parameters, add_path, is_at_end,
     is_void_statement, plain_variable,
 };
 use crate::{Memory, Occurrence};
@@ -172,7 +172,7 @@ fn of_stat(holder: Holder, ended: bool, s: &Stat, into: &mut Vec<Occurrence>) ->
                 name: *name,
                 from: holder.from,
                 to: holder.to,
-                last: is_last(holder.until, ended),
+                at_end: is_at_end(holder.until, ended),
             };
             add(one, into)
         }

@@ -16,7 +16,7 @@ place (Field name) = name
 place (Varargs token) = token
 place (Function from to vararg) = from
 place (Loop from to) = from
-place (Label name from to last) = name
+place (Label name from to at_end) = name
 place (Goto token name) = token
 place (Break token) = token
 
@@ -34,7 +34,7 @@ behind (Field name) = name + 1
 behind (Varargs token) = token + 1
 behind (Function from to vararg) = from + 1
 behind (Loop from to) = from
-behind (Label name from to last) = name + 1
+behind (Label name from to at_end) = name + 1
 behind (Goto token name) = name + 1
 behind (Break token) = token + 1
 
