@@ -6,13 +6,14 @@ use Rattle.luf_tree.specs.declared.tree.Block.{Block, out-Block}
 use Rattle.luf_tree.specs.declared.tree.Chunk.{Chunk}
 use Rattle.luf_tree.specs.Grammar.{IsBlock, IsChunk}
 use Rattle.luf_tree.specs.Level.{depth_of, level_limit}
-use Rattle.luf_parse.specs.Cause.{HasNoTree, OfToken, IsCause}
-use Rattle.luf_parse.specs.inner.Exact.{Alone, Refutes}
-use Rattle.luf_parse.specs.inner.Follow.{ends_block, EndsBlock}
-use Rattle.luf_parse.specs.inner.Parts.{ReadBlock}
-use Rattle.luf_parse.specs.declared.error.ParseErr.{ParseErr}
-use Rattle.luf_parse.specs.declared.error.ParseErr.TheVariants as error
-use Rattle.luf_parse.proofs.Ends.{block_to}
+use Rattle.luf_descent.specs.Exact.{OfToken}
+use Rattle.luf_parse.specs.Cause.{HasNoTree, IsCause}
+use Rattle.luf_descent.specs.Exact.{Alone, Refutes}
+use Rattle.luf_descent.specs.Follow.{ends_block, EndsBlock}
+use Rattle.luf_descent.specs.Parts.{ReadBlock}
+use Rattle.luf_descent.specs.declared.error.ParseErr.{ParseErr}
+use Rattle.luf_descent.specs.declared.error.ParseErr.TheVariants as error
+use Rattle.luf_descent.proofs.Ends.{block_to}
 
 -- a block ends behind the last token
 pub end_ends_block : (toks : List Tok) → EndsBlock toks (length toks)

@@ -6,8 +6,8 @@ use Rattle.luf_tree.specs.declared.tree.Chunk.{Chunk}
 use Rattle.luf_tree.specs.Grammar.{IsChunk}
 use Rattle.luf_tree.specs.Level.{depth_of, level_limit}
 use Rattle.luf_parse.specs.Cause.{IsCause}
-use Rattle.luf_parse.specs.declared.error.ParseErr.{ParseErr}
-use Rattle.luf_parse.specs.declared.error.ParseErr.TheVariants as error
+use Rattle.luf_descent.specs.declared.error.ParseErr.{ParseErr}
+use Rattle.luf_descent.specs.declared.error.ParseErr.TheVariants as error
 use Rattle.luf_parse.proofs.OneTree.{one_tree}
 
 refused : {toks : List Tok} (e : ParseErr) → IsCause toks e → (tree : Chunk) → IsChunk toks tree → depth_of tree ≤ level_limit → ◌≡◌ {A = Result Chunk ParseErr} (Err e) (Err error.Memory)

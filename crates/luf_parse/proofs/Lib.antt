@@ -1,17 +1,6 @@
-pub mod Joining
-pub mod Exactness
-pub mod Ends
-pub mod Following
-pub mod Reading
-pub mod Begins
-pub mod NameForms
 pub mod Only
 pub mod OneNames
-pub mod ExprForms
-pub mod StatForms
 pub mod AllTokens
-pub mod ExprParts
-pub mod StatParts
 pub mod OneExprs
 pub mod OneStats
 pub mod OneTree

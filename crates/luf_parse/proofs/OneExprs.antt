@@ -15,18 +15,18 @@ use Rattle.luf_tree.specs.First.{starts_expr}
 use Rattle.luf_tree.specs.Grammar as g
 use Rattle.luf_tree.specs.Grammar.{At, expression, IsToken, IsString, AreDeclared, IsExpr, IsSimple, IsPrefix, IsCall, IsParen, IsHead, AreExprs, IsTable, IsSemicolon, IsReturn, AreTargets, IsElse, IsForStep}
 use Rattle.luf_tree.proofs.TokenLaws.{expr_starts}
-use Rattle.luf_parse.specs.inner.Exact.{Alone}
-use Rattle.luf_parse.specs.inner.Follow.{NotAt, NotAssigned, NotString, IsSeparator, EndsExpr, EndsExprs, sign_begins_prefix, begins_prefix, ends_field, EndsField, precedence_at}
-use Rattle.luf_parse.specs.inner.Parts.{ReadSteps, ReadChain, ReadExpr, ReadOperand, ReadSimple, ReadPrefix, ReadHead, ReadParen, ReadSuffixes}
-use Rattle.luf_parse.specs.inner.Reads.{begins_suffix}
-use Rattle.luf_parse.specs.inner.Shapes.{suffixed_shape, sign_leaf, leaf_kind}
+use Rattle.luf_descent.specs.Exact.{Alone}
+use Rattle.luf_descent.specs.Follow.{NotAt, NotAssigned, NotString, IsSeparator, EndsExpr, EndsExprs, sign_begins_prefix, begins_prefix, ends_field, EndsField, precedence_at}
+use Rattle.luf_descent.specs.Parts.{ReadSteps, ReadChain, ReadExpr, ReadOperand, ReadSimple, ReadPrefix, ReadHead, ReadParen, ReadSuffixes}
+use Rattle.luf_descent.specs.Reads.{begins_suffix}
+use Rattle.luf_descent.specs.Shapes.{suffixed_shape, sign_leaf, leaf_kind}
 use Rattle.luf_parse.specs.declared.prefixes.Shape.{Shape}
 use Rattle.luf_parse.specs.declared.prefixes.Shape.TheVariants.{Paren}
-use Rattle.luf_parse.proofs.Exactness.{alone_form, alone_next, alone_is, alone_triple, then_rest}
-use Rattle.luf_parse.proofs.Begins.{unary_at, simple_begins, prefix_begins, paren_begins, table_begins, string_begins, expr_name_end}
-use Rattle.luf_parse.proofs.Ends.{expr_to, head_to}
-use Rattle.luf_parse.proofs.ExprForms.{prefixed_form, prefix_form, head_form, SuffixesRead, Grown, operand_form, grown_end, grown_form}
-use Rattle.luf_parse.proofs.Following.{not_at, token_closes}
+use Rattle.luf_descent.proofs.Exactness.{alone_form, alone_next, alone_is, alone_triple, then_rest}
+use Rattle.luf_descent.proofs.Begins.{unary_at, simple_begins, prefix_begins, paren_begins, table_begins, string_begins, expr_name_end}
+use Rattle.luf_descent.proofs.Ends.{expr_to, head_to}
+use Rattle.luf_descent.proofs.ExprForms.{prefixed_form, prefix_form, head_form, SuffixesRead, Grown, operand_form, grown_end, grown_form}
+use Rattle.luf_descent.proofs.Following.{not_at, token_closes}
 
 -- the first token of a simple expression, which is no unary operator
 pub record SimpleFirst (toks : List Tok) (i : ℕ) : Type 0 where

@@ -6,11 +6,11 @@ use Rattle.luf_lex.specs.declared.token.Sign.TheVariants as sign
 use Rattle.luf_tree.specs.declared.tree.Declared.{Declared}
 use Rattle.luf_tree.specs.Grammar as g
 use Rattle.luf_tree.specs.Grammar.{At, IsToken, AreNames, AreParams, IsAttribute, AreDeclared, IsPath, IsMethod}
-use Rattle.luf_parse.specs.inner.Exact.{Alone}
-use Rattle.luf_parse.specs.inner.Follow.{NotAt}
-use Rattle.luf_parse.specs.inner.Parts.{ReadNames, ReadPath, ReadMethod, ReadParams, ReadAttribute, ReadDeclared, EndsDeclared}
-use Rattle.luf_parse.proofs.Exactness.{alone_form, alone_next, alone_is, alone_triple, token_only}
-use Rattle.luf_parse.proofs.NameForms.{same_end, second_end, attribute_form, names_form, path_form, declared_form, names_begin, ParamsRead, ReadNamed, params_named, params_more, params_last, params_dots}
+use Rattle.luf_descent.specs.Exact.{Alone}
+use Rattle.luf_descent.specs.Follow.{NotAt}
+use Rattle.luf_descent.specs.Parts.{ReadNames, ReadPath, ReadMethod, ReadParams, ReadAttribute, ReadDeclared, EndsDeclared}
+use Rattle.luf_descent.proofs.Exactness.{alone_form, alone_next, alone_is, alone_triple, token_only}
+use Rattle.luf_descent.proofs.NameForms.{same_end, second_end, attribute_form, names_form, path_form, declared_form, names_begin, ParamsRead, ReadNamed, params_named, params_more, params_last, params_dots}
 use Rattle.luf_parse.proofs.Only.{before, rest_more, rest_last}
 
 pub names_only : {toks : List Tok} {i j : ℕ} {names : List ℕ} → AreNames toks i j names → NotAt toks j (Sign sign.Comma) → Alone (ReadNames toks i) (names, j)

@@ -12,17 +12,17 @@ use Rattle.luf_tree.specs.declared.tree.Stat.{Stat}
 use Rattle.luf_tree.specs.declared.tree.Declared.{Declared}
 use Rattle.luf_tree.specs.Grammar as g
 use Rattle.luf_tree.specs.Grammar.{At, expression, IsToken, IsString, AreDeclared, IsExpr, IsSimple, IsPrefix, IsCall, IsParen, IsHead, AreExprs, IsTable, IsSemicolon, IsReturn, AreTargets, IsElse, IsForStep}
-use Rattle.luf_parse.specs.inner.Exact.{Alone}
-use Rattle.luf_parse.specs.inner.Follow.{NotAt, EndsExpr, EndsExprs, begins_prefix, ends_block, ends_arms, ends_return, follows_stat, EndsBlock, EndsStat, EndsArms}
-use Rattle.luf_parse.specs.inner.Parts.{EndsDeclared, ReadPrefix, ReadBlock, ReadStats, ReadSemicolon, ReadEnded, ReadVariable, ReadMoreTargets, ReadElse, ReadForStep}
+use Rattle.luf_descent.specs.Exact.{Alone}
+use Rattle.luf_descent.specs.Follow.{NotAt, EndsExpr, EndsExprs, begins_prefix, ends_block, ends_arms, ends_return, follows_stat, EndsBlock, EndsStat, EndsArms}
+use Rattle.luf_descent.specs.Parts.{EndsDeclared, ReadPrefix, ReadBlock, ReadStats, ReadSemicolon, ReadEnded, ReadVariable, ReadMoreTargets, ReadElse, ReadForStep}
 use Rattle.luf_parse.specs.declared.prefixes.PrefixExpr.{PrefixExpr}
 use Rattle.luf_parse.specs.declared.prefixes.Shape.TheVariants.{Variable}
-use Rattle.luf_parse.proofs.Exactness.{alone_next, alone_is, then_rest, token_only}
-use Rattle.luf_parse.proofs.Begins.{prefix_begins}
-use Rattle.luf_parse.proofs.Ends.{moved}
-use Rattle.luf_parse.proofs.Following.{not_at, token_closes}
-use Rattle.luf_parse.proofs.Reading.{values_go}
-use Rattle.luf_parse.proofs.StatForms.{declared_begins, semicolon_some, semicolon_none, variable_prefix, targets_last, targets_form}
+use Rattle.luf_descent.proofs.Exactness.{alone_next, alone_is, then_rest, token_only}
+use Rattle.luf_descent.proofs.Begins.{prefix_begins}
+use Rattle.luf_descent.proofs.Ends.{moved}
+use Rattle.luf_descent.proofs.Following.{not_at, token_closes}
+use Rattle.luf_descent.proofs.Reading.{values_go}
+use Rattle.luf_descent.proofs.StatForms.{declared_begins, semicolon_some, semicolon_none, variable_prefix, targets_last, targets_form}
 use Rattle.luf_parse.proofs.Only.{before, alone_enters}
 
 pub return_begins : {toks : List Tok} {i j : ℕ} {s : Stat} → IsReturn toks i j s → At toks i (Word word.Return)

@@ -26,23 +26,23 @@ use Rattle.luf_tree.specs.Level.{depth_of}
 use Rattle.luf_tree.specs.Grammar as g
 use Rattle.luf_tree.specs.Grammar.{At, expression, statement, IsToken, IsExpr, AreSteps, IsOperand, IsSimple, IsVariable, IsCall, IsParen, IsHead, AreSuffixes, IsSuffix, IsArgs, AreExprs, IsTable, AreFields, IsField, IsFuncBody, IsBlock, AreStats, IsReturn, IsStat, AreTargets, IsArm, AreArms, IsElse, IsForStep, IsChunk}
 use Rattle.luf_tree.proofs.TokenLaws.{expr_starts}
-use Rattle.luf_parse.specs.inner.Exact.{Alone}
-use Rattle.luf_parse.specs.inner.Follow.{NotAt, continues_prefix, EndsOperand, EndsExpr, EndsExprs, ends_block, ends_arms, ends_field, EndsBlock, EndsStat, EndsArms, EndsField, precedence_at}
-use Rattle.luf_parse.specs.inner.Parts.{ReadSteps, ReadOperand, ReadSimple, ReadTable, ReadFields, ReadField, ReadExprs, ReadPrefix, ReadParen, ReadSuffix, ReadArgs, ReadFuncBody, ReadBlock, ReadStats, ReadReturn, ReadStat, ReadArms, ReadArm, ReadElse, ReadForStep}
-use Rattle.luf_parse.specs.inner.Reads.{token_begins_suffix, begins_suffix}
+use Rattle.luf_descent.specs.Exact.{Alone}
+use Rattle.luf_descent.specs.Follow.{NotAt, continues_prefix, EndsOperand, EndsExpr, EndsExprs, ends_block, ends_arms, ends_field, EndsBlock, EndsStat, EndsArms, EndsField, precedence_at}
+use Rattle.luf_descent.specs.Parts.{ReadSteps, ReadOperand, ReadSimple, ReadTable, ReadFields, ReadField, ReadExprs, ReadPrefix, ReadParen, ReadSuffix, ReadArgs, ReadFuncBody, ReadBlock, ReadStats, ReadReturn, ReadStat, ReadArms, ReadArm, ReadElse, ReadForStep}
+use Rattle.luf_descent.specs.Reads.{token_begins_suffix, begins_suffix}
 use Rattle.luf_parse.specs.declared.prefixes.Shape.TheVariants.{Variable, Call, Paren}
 use Rattle.luf_parse.proofs.AllTokens.{end_ends_block, chunk_read}
-use Rattle.luf_parse.proofs.Begins.{table_begins, suffixes_begin, steps_begin, exprs_start, begins_args, args_begin, field_begins}
-use Rattle.luf_parse.proofs.Ends.{moved, variable_to, call_to, simple_to, operand_to, expr_to, args_to, body_to, block_to, return_to, stat_to}
-use Rattle.luf_parse.proofs.Exactness.{alone_form, alone_next, alone_is, token_only}
-use Rattle.luf_parse.proofs.ExprForms.{unary_form, power_form, function_form, table_expr_form, leaf_only, table_form, fields_form, fields_end, keyed_form, named_form, item_form, exprs_form, head_name, paren_form, SuffixesRead, suffixes_form, dot_form, index_form, method_form, call_form, args_list, args_lone, lone_string, lone_table, steps_form}
-use Rattle.luf_parse.proofs.Following.{not_at, token_closes, stat_ends_expr, stat_ends_exprs, arms_end_block, block_ends_stats, field_ends_expr, binary_ends_operand, closed_suffix}
+use Rattle.luf_descent.proofs.Begins.{table_begins, suffixes_begin, steps_begin, exprs_start, begins_args, args_begin, field_begins}
+use Rattle.luf_descent.proofs.Ends.{moved, variable_to, call_to, simple_to, operand_to, expr_to, args_to, body_to, block_to, return_to, stat_to}
+use Rattle.luf_descent.proofs.Exactness.{alone_form, alone_next, alone_is, token_only}
+use Rattle.luf_descent.proofs.ExprForms.{unary_form, power_form, function_form, table_expr_form, leaf_only, table_form, fields_form, fields_end, keyed_form, named_form, item_form, exprs_form, head_name, paren_form, SuffixesRead, suffixes_form, dot_form, index_form, method_form, call_form, args_list, args_lone, lone_string, lone_table, steps_form}
+use Rattle.luf_descent.proofs.Following.{not_at, token_closes, stat_ends_expr, stat_ends_exprs, arms_end_block, block_ends_stats, field_ends_expr, binary_ends_operand, closed_suffix}
 use Rattle.luf_parse.proofs.OneNames.{names_only, path_only, method_only, params_only, declared_only}
 use Rattle.luf_parse.proofs.OneExprs.{simple_first, OnlyExpr, operand_leads, chain_leads, leads_only, power_to, prefixed_only, OnlyHead, head_alone, paren_head_only, suffixed_only, paren_ends, string_no_paren, table_no_paren, table_no_string, brace_separates, separator_ends, item_assigned}
 use Rattle.luf_parse.proofs.OneStats.{return_begins, semicolon_only, values_begin, else_ends_arms, step_ends_expr, stat_ends_declared, stat_no_assign, assign_ends_declared, declared_no_function, targets_begin, call_begins, moved_stats, moved_step, in_no_comma, do_ends, ended_only, no_else_only, no_step_only, OnlyTargets, one_target_only, more_targets_only}
 use Rattle.luf_parse.proofs.Only.{before, alone_enters, rest_more, rest_last}
-use Rattle.luf_parse.proofs.Reading.{stats_follow, stat_goes, semicolon_ends_return, semicolon_ends_exprs, stat_ends_prefix}
-use Rattle.luf_parse.proofs.StatForms.{begins_word, begins_sign, expr_stat_form, func_body_form, block_form, stats_form, last_form, stats_end, return_form, arms_form, arm_form, else_form, for_step_form, names_assigned, body_begins, method_no_dot}
+use Rattle.luf_descent.proofs.Reading.{stats_follow, stat_goes, semicolon_ends_return, semicolon_ends_exprs, stat_ends_prefix}
+use Rattle.luf_descent.proofs.StatForms.{begins_word, begins_sign, expr_stat_form, func_body_form, block_form, stats_form, last_form, stats_end, return_form, arms_form, arm_form, else_form, for_step_form, names_assigned, body_begins, method_no_dot}
 
 mutual
   expr_only : {toks : List Tok} {n i j : ℕ} {e : Expr} → IsExpr toks n i j e → EndsExpr toks n j → (left : ℕ) → OnlyExpr toks left i n e

@@ -1,7 +1,7 @@
 -- Where there is at most one of each part, there is at most one whole.
 use Rattle.std.proofs.Common.{◌≡◌, ℕ, List, [], ◌∷◌, ap, ◌∙◌}
-use Rattle.luf_parse.specs.inner.Exact.{Alone, Then, Enters}
-use Rattle.luf_parse.proofs.Exactness.{ListRest}
+use Rattle.luf_descent.specs.Exact.{Alone, Then, Enters}
+use Rattle.luf_descent.proofs.Exactness.{ListRest}
 
 -- a level is entered, and then the rest is known at each level
 pub alone_enters : {A : Type 0} {left : ℕ} {Q : ℕ → A → Type 0} {y : A} → ((inner : ℕ) → Alone (Q inner) y) → Alone (Then (Enters left) Q) y

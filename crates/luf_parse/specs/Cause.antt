@@ -4,18 +4,12 @@ use Rattle.luf_lex.specs.declared.token.Tok.{Tok}
 use Rattle.luf_tree.specs.declared.tree.Chunk.{Chunk}
 use Rattle.luf_tree.specs.Grammar.{IsChunk}
 use Rattle.luf_tree.specs.Level.{depth_of, level_limit}
-use Rattle.luf_parse.specs.declared.error.ParseErr.{ParseErr}
-use Rattle.luf_parse.specs.declared.error.ParseErr.TheVariants.{Syntax, TooDeep, Memory}
+use Rattle.luf_descent.specs.Exact.{OfToken}
+use Rattle.luf_descent.specs.declared.error.ParseErr.{ParseErr}
 
 -- the grammar derives no tree from these tokens that is nested within the limit of levels
 abbrev pub HasNoTree : List Tok → Type 0
 HasNoTree toks = (chunk : Chunk) → IsChunk toks chunk → depth_of chunk ≤ level_limit → ⊥
-
--- what is said of the token that an error names; want of memory names none
-abbrev pub OfToken : (ℕ → Type 0) → ParseErr → Type 0
-OfToken P (Syntax token) = P token
-OfToken P (TooDeep token) = P token
-OfToken P Memory = Unit {0}
 
 -- The cause of an error. The token is one of the list, or the end. Which of the two words is answered, and at which
 -- token, is not said here.

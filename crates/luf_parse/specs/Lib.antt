@@ -1,3 +1,2 @@
--- Why tokens form no tree. What stands in `inner` only private functions cite.
+-- Why tokens form no tree.
 pub mod Cause
-pub mod inner

@@ -1,23 +1,9 @@
-//! The tree of a source from its tokens, by recursive descent with one token ahead.
-//!
-//! `left` is how many levels may still be entered. Recursion follows levels alone: all lists are loops.
+//! The tree of a source from its tokens.
 #![tactic(auto)]
 
-mod assignments;
-mod blocks;
-mod error;
-mod expressions;
-mod growing;
 mod laws;
-mod loops;
-mod made;
-mod names;
-mod prefixes;
-mod statements;
-mod tables;
-mod tokens;
 mod whole;
 
-pub use error::ParseErr;
 pub use laws::one_tree;
+pub use luf_descent::ParseErr;
 pub use whole::parse;

@@ -6,9 +6,7 @@ ghost use Rattle.luf_tree.specs.Grammar.{IsChunk};
 ghost use Rattle.luf_tree.specs.Level.{level_limit, depth_of};
 ghost use Rattle.luf_parse.specs.Cause.{IsCause};
 
-use crate::ParseErr;
-use crate::blocks::block;
-use crate::tokens::refusal;
+use luf_descent::{ParseErr, block, refusal};
 use luf_lex::Cut;
 use luf_tree::{Chunk, LEVEL_LIMIT};
 use std::alloc::Global;

@@ -1,6 +1,6 @@
 use Rattle.std.proofs.Common.{sym, ◌∙◌}
 use Rattle.luf_parse.proofs.AllTokens.{refused_cause, short_cause}
-use Rattle.luf_parse.proofs.Exactness.{passed}
+use Rattle.luf_descent.proofs.Exactness.{passed}
 use Rattle.luf_lex.specs.Tokens.{toks_of}
 use Rattle.luf_parse.specs.Cause.{IsCause}
 use Rattle.luf_parse.proofs.whole.whole.Goals as goal

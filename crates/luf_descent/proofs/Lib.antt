@@ -1,0 +1,11 @@
+pub mod Joining
+pub mod Exactness
+pub mod Ends
+pub mod Following
+pub mod Reading
+pub mod Begins
+pub mod NameForms
+pub mod ExprForms
+pub mod StatForms
+pub mod ExprParts
+pub mod StatParts
