@@ -1,3 +1,4 @@
 pub mod Code
+pub mod Command
 pub mod Line
 pub mod Outcome

@@ -1,10 +1,10 @@
 -- What a run comes to, by its words and the contents of its input. Our own rule.
-use Rattle.std.specs.Prelude.{◌≡◌, ℕ, ◌≤◌, List, [], ◌∷◌, length, codes, Option, Some}
+use Rattle.std.specs.Prelude.{◌≡◌, ℕ, List, [], codes, Option, Some}
 use Rattle.std.specs.Option.{ForSome}
-use Rattle.luf_work.specs.Limits.{source_limit, text_limit}
-use Rattle.luf_work.specs.Minify.{IsMinified, IsMinifyRefusal}
 use Rattle.luf_work.specs.declared.refusal.Refusal.{Refusal}
+use Rattle.luafmt.specs.Command.{Mean, AreNoCommand, Writes, Refuses}
 use Rattle.luafmt.specs.Line.{line_of, refusal_line}
+use Rattle.luafmt.specs.declared.command.Command.{Command}
 use Rattle.luafmt.specs.declared.status.Status.{Status}
 use Rattle.luafmt.specs.declared.status.Status.TheVariants.{Done, Differs, Usage, Refused, ReadFault, WriteFault, NoMemory, Config}
 
@@ -14,18 +14,14 @@ pub record Outcome : Type 0 where
   pub out : List ℕ
   pub errs : List ℕ
 
--- the words are the one word `minify`
-abbrev pub IsMinify : List (List ℕ) → Type 0
-IsMinify words = words ≡ codes "minify" ∷ []
-
--- The table of answers. A source is either accepted or refused. Where its tokens have no tree of at most 200 levels,
--- the line has `Syntax` or `TooDeep` and a place. Which of the two, and which token's place, is not said here.
+-- The table of answers. A source is either accepted or refused by a command. Where its tokens have no tree of at most
+-- 200 levels, the line has `Syntax` or `TooDeep` and a place. Which of the two, and which token's place, is not said here.
 pub data Gives : List (List ℕ) → List ℕ → Outcome → Type 0 where
-  usage : (words : List (List ℕ)) (contents : List ℕ) → (IsMinify words → ⊥)
+  usage : (words : List (List ℕ)) (contents : List ℕ) → AreNoCommand words
       → Gives words contents (record { status = Usage; out = []; errs = line_of (codes "luafmt: Usage") })
-  refused : (words : List (List ℕ)) (contents line : List ℕ) (refusal : Refusal) → IsMinify words → IsMinifyRefusal contents refusal → refusal_line refusal ≡ Some line
+  refused : (words : List (List ℕ)) (contents line : List ℕ) (command : Command) (refusal : Refusal) → Mean words command → Refuses command contents refusal → refusal_line refusal ≡ Some line
       → Gives words contents (record { status = Refused; out = []; errs = line_of line })
-  done : (words : List (List ℕ)) (contents text : List ℕ) → IsMinify words → length contents ≤ source_limit → IsMinified contents text → length text ≤ text_limit
+  done : (words : List (List ℕ)) (contents text : List ℕ) (command : Command) → Mean words command → Writes command contents text
       → Gives words contents (record { status = Done; out = text; errs = [] })
 
 -- the contents of an input: those that it tells, where it tells any

@@ -1,16 +1,19 @@
 //! What a run is to write, before any of it is written.
-ghost use Rattle.std.specs.Prelude.{◌≡◌, ◌↔◌, ℕ, List, [], map, string_bytes, Some, IfOk, OnOk, OnErr, IsErrOf, IsTrue};
+ghost use Rattle.std.specs.Prelude.{◌≡◌, ◌≢◌, ◌⊎◌, ◌++◌, ℕ, List, [], map, string_bytes, Some, Ok, Err, IfOk, IfErr, OnOk, OnErr, IsErrOf};
 ghost use Rattle.luf_io.specs.Count.{Rose};
-ghost use Rattle.luf_work.specs.Minify.{IsMinifyAccepted, SameTokens};
+ghost use Rattle.luf_work.specs.Minify.{SameTokens};
 ghost use Rattle.std.specs.Cow.{cow_str_bytes};
+ghost use Rattle.luafmt.specs.Command.{Mean, AreNoCommand, Accepts, Writes, Refuses};
 ghost use Rattle.luafmt.specs.Line.{line_of, refusal_line as spec_refusal_line};
-ghost use Rattle.luafmt.specs.Outcome.{Outcome, IsMinify, Gives, AreContents, IsOutcome};
+ghost use Rattle.luafmt.specs.Outcome.{Outcome, Gives, AreContents, IsOutcome};
+ghost use Rattle.luafmt.specs.declared.command.Command.{Command as Meant};
 
+use crate::command::{Command, command_of};
 use crate::line::refusal_line;
 use crate::status::Status;
 use luf_io::{ReadErr, Source, read_all};
 use luf_memory::Memory;
-use luf_work::{Refusal, SOURCE_LIMIT, minify_bytes};
+use luf_work::{Refusal, SOURCE_LIMIT, list_bytes, minify_bytes};
 use std::alloc::Global;
 use std::borrow::CowStr;
 use std::marker::Model;
@@ -49,62 +52,71 @@ impl From<Memory> for Halt {
     }
 }
 
-// The answer to the words. For `minify` the input is read.
+// The answer to the words. For a command the input is read.
 pub(crate) fn prepare<I: Source>(
     alloc: Global,
     words: &[String],
     input: &mut I,
 ) -> Result<Answer, Halt>
     ensures gives { IfOk result (IsOutcome (map string_bytes words.now) (I.left input.old)) }
-    ensures same_tokens { IfOk result (λ a. a.status ≡ Status.Done → (contents : List ℕ)
-        × AreContents (I.left input.old) contents × SameTokens contents a.out) }
-    ensures accepted { IfOk result (λ a. (contents : List ℕ) → I.left input.old ≡ Some contents
-        → IsMinifyAccepted contents → IsMinify (map string_bytes words.now) → a.status ≡ Status.Done) }
+    ensures same_tokens { IfOk result (λ a. a.status ≡ Status.Done → Mean (map string_bytes words.now) Command.Minify
+        → (contents : List ℕ) × AreContents (I.left input.old) contents × SameTokens contents a.out) }
+    ensures accepted { IfOk result (λ a. (contents : List ℕ) (command : Meant) → I.left input.old ≡ Some contents
+        → Accepts command contents → Mean (map string_bytes words.now) command → a.status ≡ Status.Done) }
     ensures calm { OnOk result (I.faults input.new ≡ I.faults input.old) }
 
-    // Where the words are not `minify` nothing is read, and so nothing fails.
-    ensures err { OnErr result (IsMinify (map string_bytes words.now)) }
-    ensures unread { ¬ IsMinify (map string_bytes words.now) → input.new ≡ input.old }
+    // Where the words are no command nothing is read, and so nothing fails.
+    ensures err { OnErr result ((command : Meant) × Mean (map string_bytes words.now) command) }
+    ensures unread { AreNoCommand (map string_bytes words.now) → input.new ≡ input.old }
     ensures read_fault { IsErrOf result Halt.ReadFault
         → Rose (I.faults input.old) (I.faults input.new) }
     ensures no_memory { IsErrOf result Halt.NoMemory → I.faults input.new ≡ I.faults input.old }
 {
-    if !is_minify(words) {
+    let Some(command) = command_of(words) else {
         return Ok(only_line(alloc, Status::Usage, CowStr::Borrowed("luafmt: Usage\n")));
-    }
+    };
     let mut source = Vec::new(alloc);
     match read_all(alloc, input, SOURCE_LIMIT, &mut source) {
-        Ok(()) => Ok(minified(alloc, &source)?),
+        Ok(()) => Ok(answered(alloc, command, &source)?),
         Err(ReadErr::TooLarge) => Ok(refused(alloc, Refusal::TooLarge)?),
         Err(ReadErr::Fault) => Err(Halt::ReadFault),
         Err(ReadErr::Memory) => Err(Halt::NoMemory),
     }
 }
 
-fn is_minify(words: &[String]) -> bool
-    ensures { IsTrue result ↔ IsMinify (map string_bytes words.now) }
-{
-    match words {
-        [word] => word.as_str() == "minify",
-        _ => false,
-    }
-}
-
-// The answer of `minify` to a source.
-fn minified(alloc: Global, source: &[u8]) -> Result<Answer, Memory>
+// The answer of a command to a source.
+fn answered(alloc: Global, command: Command, source: &[u8]) -> Result<Answer, Memory>
     ensures gives { IfOk result (λ a.
-        (words : List (List ℕ)) → IsMinify words → Gives words source.now a) }
-    ensures same_tokens { IfOk result (λ a. a.status ≡ Status.Done → SameTokens source.now a.out) }
-    ensures accepted { IfOk result (λ a. IsMinifyAccepted source.now → a.status ≡ Status.Done) }
+        (words : List (List ℕ)) → Mean words command → Gives words source.now a) }
+    ensures same_tokens { IfOk result (λ a. a.status ≡ Status.Done → command ≡ Command.Minify → SameTokens source.now a.out) }
+    ensures accepted { IfOk result (λ a. Accepts command source.now → a.status ≡ Status.Done) }
 {
     let mut out = Vec::new(alloc);
-    match minify_bytes(alloc, source, &mut out) {
+    match job(alloc, command, source, &mut out) {
         Ok(()) => Ok(Answer {
             status: Status::Done,
             out,
             errs: CowStr::Borrowed(""),
         }),
         Err(refusal) => Ok(refused(alloc, refusal)?),
+    }
+}
+
+// Appends what a command writes of a source.
+fn job(
+    alloc: Global,
+    command: Command,
+    source: &[u8],
+    into: &mut Vec<u8>,
+) -> Result<(), Refusal>
+    ensures ok { OnOk result ((text : List ℕ) × Writes command source.now text × (into.new.items ≡ into.old.items ++ text)
+        × (command ≡ Command.Minify → SameTokens source.now text)) }
+    ensures complete { Accepts command source.now → (result ≡ Ok tt) ⊎ (result ≡ Err Refusal.Memory) }
+    ensures refused { IfErr result (λ refusal. refusal ≢ Refusal.Memory → Refuses command source.now refusal) }
+{
+    match command {
+        Command::Minify => minify_bytes(alloc, source, into),
+        Command::List => list_bytes(alloc, source, into),
     }
 }
 

@@ -1,8 +1,9 @@
-//! A formatter and renaming minifier for Lua 5.4. So far it has one command, `minify`, which reads
-//! a source from standard input and writes its minified text to standard output.
+//! A formatter and renaming minifier for Lua 5.4. So far it has two commands, `minify` and
+//! `list`, which read a source or a chunk from standard input and write to standard output.
 #![tactic(auto)]
 
 mod answer;
+mod command;
 mod line;
 mod run;
 mod status;

@@ -2,16 +2,19 @@
 ghost use Rattle.std.specs.Prelude.{◌≡◌, ◌≢◌, ◌⊎◌, ℕ, List, take, map, string_bytes, Some, OnOk, OnErr};
 ghost use Rattle.luf_io.specs.Count.{Rose};
 ghost use Rattle.luf_io.specs.Sink.{Appends};
-ghost use Rattle.luf_work.specs.Minify.{IsMinifyAccepted, SameTokens};
-ghost use Rattle.luafmt.specs.Outcome.{Outcome, IsMinify, AreContents, IsOutcome, RanThrough};
+ghost use Rattle.luf_work.specs.Minify.{SameTokens};
+ghost use Rattle.luafmt.specs.Command.{Mean, AreNoCommand, Accepts};
+ghost use Rattle.luafmt.specs.Outcome.{Outcome, AreContents, IsOutcome, RanThrough};
+ghost use Rattle.luafmt.specs.declared.command.Command.{Command as Meant};
+ghost use Rattle.luafmt.specs.declared.command.Command.TheVariants as command;
 
 use crate::answer::{Answer, Halt, prepare};
 use crate::status::Status;
 use luf_io::{Files, Sink, Source, WriteErr, write_all};
 use std::alloc::Global;
 
-/// Runs the command that the words after the program's name are. So far that is `minify` alone: it
-/// writes the minified text of the input to `out`, or the line of a refusal to `errs`. Nothing is
+/// Runs the command that the words after the program's name are: `minify` or `list`, alone. It writes the
+/// minified text of the input, or its listing, to `out`, or the line of a refusal to `errs`. Nothing is
 /// written before the whole text is there. No file is touched.
 ///
 /// A fault of `input` gives `ReadFault`, one of `out` or `errs` gives `WriteFault`, and want of
@@ -32,21 +35,21 @@ pub fn run<F: Files, I: Source, O: Sink, E: Sink>(
         × Appends (O.written out.old) w.out (O.written out.new)
         × Appends (E.written errs.old) w.errs (E.written errs.new) }
 
-    // What is written has the tokens of the source.
-    ensures text { result ≡ Status.Done → (contents : List ℕ) × (text : List ℕ)
+    // What `minify` writes has the tokens of the source.
+    ensures text { result ≡ Status.Done → Mean (map string_bytes words.now) command.Minify → (contents : List ℕ) × (text : List ℕ)
         × AreContents (I.left input.old) contents
         × SameTokens contents text
         × Appends (O.written out.old) text (O.written out.new) }
 
     // The words alone decide on `Usage`.
-    ensures usage { result ≡ Status.Usage → ¬ IsMinify (map string_bytes words.now) }
-    ensures no_command { ¬ IsMinify (map string_bytes words.now)
+    ensures usage { result ≡ Status.Usage → AreNoCommand (map string_bytes words.now) }
+    ensures no_command { AreNoCommand (map string_bytes words.now)
         → (result ≡ Status.Usage) ⊎ (result ≡ Status.WriteFault) }
-    ensures unread { ¬ IsMinify (map string_bytes words.now) → input.new ≡ input.old }
+    ensures unread { AreNoCommand (map string_bytes words.now) → input.new ≡ input.old }
 
     // Each fault has its cause, and a count of faults stays at every other answer.
     ensures read_fault { result ≡ Status.ReadFault → Rose (I.faults input.old) (I.faults input.new)
-        × IsMinify (map string_bytes words.now) }
+        × (command : Meant) × Mean (map string_bytes words.now) command }
     ensures write_fault { result ≡ Status.WriteFault
         → Rose (O.faults out.old) (O.faults out.new) ⊎ Rose (E.faults errs.old) (E.faults errs.new) }
     ensures read_calm { result ≢ Status.ReadFault → I.faults input.new ≡ I.faults input.old }
@@ -61,9 +64,9 @@ pub fn run<F: Files, I: Source, O: Sink, E: Sink>(
         × Appends (O.written out.old) (take n w.out) (O.written out.new)
         × Appends (E.written errs.old) (take m w.errs) (E.written errs.new) }
 
-    // Where all goes well, an accepted source is minified.
-    ensures complete { (contents : List ℕ) → I.left input.old ≡ Some contents
-        → IsMinifyAccepted contents → IsMinify (map string_bytes words.now)
+    // Where all goes well, the command is done on each source that it accepts.
+    ensures complete { (contents : List ℕ) (command : Meant) → I.left input.old ≡ Some contents
+        → Accepts command contents → Mean (map string_bytes words.now) command
         → ¬ Rose (I.faults input.old) (I.faults input.new)
         → ¬ Rose (O.faults out.old) (O.faults out.new)
         → ¬ Rose (E.faults errs.old) (E.faults errs.new)
