@@ -123,3 +123,7 @@ abbrev pub first_of : Option ScopeBad → Option ScopeBad → Option ScopeBad
 first_of None b = b
 first_of (Some a) None = Some a
 first_of (Some a) (Some b) = Some (if is_told_before b a then b else a)
+
+-- the first fault of all
+abbrev pub scope_fault : Spelling → List Occurrence → Option ScopeBad
+scope_fault spelled occurrences = first_of (first_fault (name_faults spelled occurrences)) (first_fault (jump_faults spelled occurrences))

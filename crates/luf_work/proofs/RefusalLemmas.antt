@@ -1,5 +1,5 @@
 -- When a source has a minified text, and which, and when it has a cause of a refusal, and which.
-use Rattle.std.proofs.Common.{◌≡◌, ◌≢◌, ◌⊎◌, inl, inr, ℕ, ◌≤◌, Option, List, Ok, Err, ◌++◌, codes, length, map, refl, sym, ap, ◌∙◌, subst, arith}
+use Rattle.std.proofs.Common.{◌≡◌, ◌≢◌, ◌⊎◌, inl, inr, ℕ, ◌≤◌, Option, Some, None, List, Ok, Err, ◌++◌, codes, length, map, refl, sym, ap, ◌∙◌, subst, arith}
 use Rattle.std.specs.Prelude.{Result, IfErr, IsErrAnd, slice_get}
 use Rattle.std.specs.Option.{option_map, unwrap_or}
 use Rattle.std.proofs.lemmas.Option.{unwrap_or-slice_get, slice_get-map}
@@ -15,11 +15,14 @@ use Rattle.luf_tree.specs.declared.tree.Chunk.{Chunk}
 use Rattle.luf_tree.specs.Grammar.{IsChunk}
 use Rattle.luf_work.specs.Limits.{source_limit}
 use Rattle.luf_work.specs.Minify.{IsMinified, IsMinifyAccepted, HasLargeText, IsMinifyRefusal}
-use Rattle.luf_work.specs.Refusals.{start_of, IsLexicalAt, HasNoTreeAt, IsSourceRefusal, IsSameRefusal, AnswersRefusal}
-use Rattle.luf_work.specs.Source.{IsSource, IsAccepted}
+use Rattle.luf_parse.proofs.OneTree.{one_tree}
+use Rattle.luf_scope.specs.declared.fault.ScopeBad.{ScopeBad}
+use Rattle.luf_scope.specs.declared.fault.ScopeWhat.{ScopeWhat}
+use Rattle.luf_work.specs.Refusals.{start_of, IsLexicalAt, HasNoTreeAt, HasScopeFaultAt, IsSourceRefusal, TellsNoTree, IsSameRefusal, AnswersRefusal}
+use Rattle.luf_work.specs.Source.{IsSource, IsAccepted, scope_fault_of}
 use Rattle.luf_work.specs.Text.{IsJoined, nothing, alone, apart, spaced, hash_text}
 use Rattle.luf_work.specs.declared.refusal.Refusal.{Refusal}
-use Rattle.luf_work.specs.declared.refusal.Refusal.TheVariants.{TooLarge, Lexical, Syntax, TooDeep, ResultTooLarge, Memory}
+use Rattle.luf_work.specs.declared.refusal.Refusal.TheVariants.{TooLarge, Lexical, Syntax, TooDeep, Scope, ResultTooLarge, Memory}
 
 -- where a token starts, by its span
 pub start_is : (source : List ℕ) (pieces : List Piece) (token : ℕ) (o : Option Span) → o ≡ slice_get (spans_of pieces) token → unwrap_or (option_map (λ s. s.from) o) (length source) ≡ start_of source pieces token
@@ -27,6 +30,10 @@ start_is source pieces token o e =
     ap (λ x. unwrap_or (option_map (λ (s : Span). s.from) x) (length source)) e
     ∙ ap (λ x. unwrap_or x (length source)) (sym (slice_get-map (λ (s : Span). s.from) (spans_of pieces) token))
     ∙ unwrap_or-slice_get (map (λ (s : Span). s.from) (spans_of pieces)) token (length source)
+
+-- an accepted source, by its parts
+pub accepted_of : (source : List ℕ) (pieces : List Piece) → length source ≤ source_limit → ((chunk : Chunk) × IsSource source pieces chunk × (scope_fault_of source pieces chunk ≡ None)) → IsAccepted source
+accepted_of source pieces within h = record { within = within; pieces = pieces; chunk = h.0; is = h.1; scopes = h.2 }
 
 -- the minified text of a source, by its parts
 pub minified_of : (source : List ℕ) (pieces : List Piece) (chunk : Chunk) (tokens : List ℕ) → IsSource source pieces chunk → IsJoined (spellings_of source pieces) tokens → IsMinified source (hash_text source pieces ++ tokens)
@@ -60,13 +67,28 @@ no_tree_no_source source pieces chunk place h is =
     let same : pieces ≡ h.pieces = one_cut source pieces h.pieces is.cut h.cut in
     h.none chunk (subst (λ (ps : List Piece). IsChunk (toks_of ps) chunk) same is.tree) is.levels
 
-source_not_refused : (source : List ℕ) (pieces : List Piece) (chunk : Chunk) (refusal : Refusal) → length source ≤ source_limit → IsSource source pieces chunk → IsSourceRefusal source refusal → ⊥
-source_not_refused source pieces chunk TooLarge within is large = omega (arith, large, within)
-source_not_refused source pieces chunk (Lexical place what) within is cause = fault_no_source source pieces chunk place what cause.1 is
-source_not_refused source pieces chunk (Syntax place) within is cause = no_tree_no_source source pieces chunk place cause.1 is
-source_not_refused source pieces chunk (TooDeep place) within is cause = no_tree_no_source source pieces chunk place cause.1 is
-source_not_refused source pieces chunk ResultTooLarge within is cause = cause
-source_not_refused source pieces chunk Memory within is cause = cause
+-- nor an end of its cut
+fault_no_tree : (source : List ℕ) (place : Place) (what : LexWhat) (place' : Place) → IsLexicalAt source place what → HasNoTreeAt source place' → ⊥
+fault_no_tree source place what place' h g = cut_excludes_fault source g.pieces h.at what g.cut h.fault
+
+-- a source has one cut and one tree, and so one first scope fault or none
+one_scope_fault : (source : List ℕ) (pieces others : List Piece) (chunk other : Chunk) → IsSource source pieces chunk → IsSource source others other → scope_fault_of source pieces chunk ≡ scope_fault_of source others other
+one_scope_fault source pieces others chunk other is is' =
+    let same : pieces ≡ others = one_cut source pieces others is.cut is'.cut in
+    ap (λ (ps : List Piece). scope_fault_of source ps chunk) same
+    ∙ ap (scope_fault_of source others) (one_tree (toks_of others) chunk other (subst (λ (ps : List Piece). IsChunk (toks_of ps) chunk) same is.tree) is'.tree)
+
+-- an accepted source has no cause
+pub source_not_refused : (source : List ℕ) (refusal : Refusal) → IsAccepted source → IsSourceRefusal source refusal → ⊥
+source_not_refused source TooLarge a large = let within = a.within in omega (arith, large, within)
+source_not_refused source (Lexical place what) a cause = fault_no_source source a.pieces a.chunk place what cause.1 a.is
+source_not_refused source (Syntax place) a cause = no_tree_no_source source a.pieces a.chunk place cause.1 a.is
+source_not_refused source (TooDeep place) a cause = no_tree_no_source source a.pieces a.chunk place cause.1 a.is
+source_not_refused source (Scope place what) a cause =
+    let h = cause.1 in
+    let none : None ≡ Some (record { token = h.token; what = what }) = sym a.scopes ∙ one_scope_fault source a.pieces h.pieces a.chunk h.chunk a.is h.is ∙ h.fault in absurd cc
+source_not_refused source ResultTooLarge a cause = cause
+source_not_refused source Memory a cause = cause
 
 -- a source has one lexical fault at most, at one place
 one_lexical : (source : List ℕ) (place : Place) (what : LexWhat) (place' : Place) (what' : LexWhat) → IsLexicalAt source place what → IsLexicalAt source place' what' → Lexical place what ≡ Lexical place' what'
@@ -74,38 +96,64 @@ one_lexical source place what place' what' h g =
     let same = one_fault source h.at g.at what what' h.fault g.fault in
     ap (λ (p : Place). Lexical p what) (h.place_is ∙ ap (place_in source) same.0 ∙ sym g.place_is) ∙ ap (λ (w : LexWhat). Lexical place' w) same.1
 
--- and none where it has a cut
-fault_no_tree : (source : List ℕ) (place : Place) (what : LexWhat) (place' : Place) → IsLexicalAt source place what → HasNoTreeAt source place' → ⊥
-fault_no_tree source place what place' h g = cut_excludes_fault source g.pieces h.at what g.cut h.fault
+-- and one first scope fault
+same_scope : (source : List ℕ) (place : Place) (what : ScopeWhat) (place' : Place) (what' : ScopeWhat) → HasScopeFaultAt source place what → HasScopeFaultAt source place' what' → Scope place what ≡ Scope place' what'
+same_scope source place what place' what' h g =
+    let pieces : h.pieces ≡ g.pieces = one_cut source h.pieces g.pieces h.is.cut g.is.cut in
+    let fault : Some (record { token = h.token; what = what }) ≡ Some (record { token = g.token; what = what' }) = sym h.fault ∙ one_scope_fault source h.pieces g.pieces h.chunk g.chunk h.is g.is ∙ g.fault in
+    let bad : ◌≡◌ {A = ScopeBad} (record { token = h.token; what = what }) (record { token = g.token; what = what' }) = cc fault in
+    ap (λ (p : Place). Scope p what) (h.place_is ∙ ap (λ (ps : List Piece). place_in source (start_of source ps h.token)) pieces ∙ ap (λ (b : ScopeBad). place_in source (start_of source g.pieces b.token)) bad ∙ sym g.place_is)
+    ∙ ap (λ (b : ScopeBad). Scope place' b.what) bad
 
--- two causes of one source are one, or both tell that it has no tree
-one_source_refusal : (source : List ℕ) (refusal other : Refusal) → IsSourceRefusal source refusal → IsSourceRefusal source other → IsSameRefusal refusal other
+-- a source that is too large has no other cause
+large_only : (source : List ℕ) (other : Refusal) → source_limit < length source → IsSourceRefusal source other → IsSameRefusal TooLarge other
+large_only source TooLarge h g = inl refl
+large_only source (Lexical q v) h g = absurd (omega (arith, h, g.0))
+large_only source (Syntax q) h g = absurd (omega (arith, h, g.0))
+large_only source (TooDeep q) h g = absurd (omega (arith, h, g.0))
+large_only source (Scope q v) h g = absurd (omega (arith, h, g.0))
+large_only source ResultTooLarge h g = absurd g
+large_only source Memory h g = absurd g
+
+-- nor has one with a lexical fault
+lexical_only : (source : List ℕ) (place : Place) (what : LexWhat) (other : Refusal) → length source ≤ source_limit → IsLexicalAt source place what → IsSourceRefusal source other → IsSameRefusal (Lexical place what) other
+lexical_only source p w TooLarge within h g = absurd (omega (arith, g, within))
+lexical_only source p w (Lexical q v) within h g = inl (one_lexical source p w q v h g.1)
+lexical_only source p w (Syntax q) within h g = absurd (fault_no_tree source p w q h g.1)
+lexical_only source p w (TooDeep q) within h g = absurd (fault_no_tree source p w q h g.1)
+lexical_only source p w (Scope q v) within h g = absurd (fault_no_source source g.1.pieces g.1.chunk p w h g.1.is)
+lexical_only source p w ResultTooLarge within h g = absurd g
+lexical_only source p w Memory within h g = absurd g
+
+-- nor one without a tree, but by another word or place of the same
+no_tree_only : (source : List ℕ) (place : Place) (refusal other : Refusal) → TellsNoTree refusal → length source ≤ source_limit → HasNoTreeAt source place → IsSourceRefusal source other → IsSameRefusal refusal other
+no_tree_only source p refusal TooLarge tells within h g = absurd (omega (arith, g, within))
+no_tree_only source p refusal (Lexical q v) tells within h g = absurd (fault_no_tree source q v p g.1 h)
+no_tree_only source p refusal (Syntax q) tells within h g = inr (tells, tt)
+no_tree_only source p refusal (TooDeep q) tells within h g = inr (tells, tt)
+no_tree_only source p refusal (Scope q v) tells within h g = absurd (no_tree_no_source source g.1.pieces g.1.chunk p h g.1.is)
+no_tree_only source p refusal ResultTooLarge tells within h g = absurd g
+no_tree_only source p refusal Memory tells within h g = absurd g
+
+-- nor one with a scope fault
+scope_only : (source : List ℕ) (place : Place) (what : ScopeWhat) (other : Refusal) → length source ≤ source_limit → HasScopeFaultAt source place what → IsSourceRefusal source other → IsSameRefusal (Scope place what) other
+scope_only source p w TooLarge within h g = absurd (omega (arith, g, within))
+scope_only source p w (Lexical q v) within h g = absurd (fault_no_source source h.pieces h.chunk q v g.1 h.is)
+scope_only source p w (Syntax q) within h g = absurd (no_tree_no_source source h.pieces h.chunk q g.1 h.is)
+scope_only source p w (TooDeep q) within h g = absurd (no_tree_no_source source h.pieces h.chunk q g.1 h.is)
+scope_only source p w (Scope q v) within h g = inl (same_scope source p w q v h g.1)
+scope_only source p w ResultTooLarge within h g = absurd g
+scope_only source p w Memory within h g = absurd g
+
+-- so two causes of one source are one, or both tell that it has no tree
+pub one_source_refusal : (source : List ℕ) (refusal other : Refusal) → IsSourceRefusal source refusal → IsSourceRefusal source other → IsSameRefusal refusal other
+one_source_refusal source TooLarge other h g = large_only source other h g
+one_source_refusal source (Lexical p w) other h g = lexical_only source p w other h.0 h.1 g
+one_source_refusal source (Syntax p) other h g = no_tree_only source p (Syntax p) other tt h.0 h.1 g
+one_source_refusal source (TooDeep p) other h g = no_tree_only source p (TooDeep p) other tt h.0 h.1 g
+one_source_refusal source (Scope p w) other h g = scope_only source p w other h.0 h.1 g
 one_source_refusal source ResultTooLarge other h g = absurd h
 one_source_refusal source Memory other h g = absurd h
-one_source_refusal source TooLarge TooLarge h g = inl refl
-one_source_refusal source TooLarge (Lexical p w) h g = absurd (omega (arith, h, g.0))
-one_source_refusal source TooLarge (Syntax p) h g = absurd (omega (arith, h, g.0))
-one_source_refusal source TooLarge (TooDeep p) h g = absurd (omega (arith, h, g.0))
-one_source_refusal source TooLarge ResultTooLarge h g = absurd g
-one_source_refusal source TooLarge Memory h g = absurd g
-one_source_refusal source (Lexical p w) TooLarge h g = absurd (omega (arith, g, h.0))
-one_source_refusal source (Lexical p w) (Lexical q v) h g = inl (one_lexical source p w q v h.1 g.1)
-one_source_refusal source (Lexical p w) (Syntax q) h g = absurd (fault_no_tree source p w q h.1 g.1)
-one_source_refusal source (Lexical p w) (TooDeep q) h g = absurd (fault_no_tree source p w q h.1 g.1)
-one_source_refusal source (Lexical p w) ResultTooLarge h g = absurd g
-one_source_refusal source (Lexical p w) Memory h g = absurd g
-one_source_refusal source (Syntax p) TooLarge h g = absurd (omega (arith, g, h.0))
-one_source_refusal source (Syntax p) (Lexical q v) h g = absurd (fault_no_tree source q v p g.1 h.1)
-one_source_refusal source (Syntax p) (Syntax q) h g = inr (tt, tt)
-one_source_refusal source (Syntax p) (TooDeep q) h g = inr (tt, tt)
-one_source_refusal source (Syntax p) ResultTooLarge h g = absurd g
-one_source_refusal source (Syntax p) Memory h g = absurd g
-one_source_refusal source (TooDeep p) TooLarge h g = absurd (omega (arith, g, h.0))
-one_source_refusal source (TooDeep p) (Lexical q v) h g = absurd (fault_no_tree source q v p g.1 h.1)
-one_source_refusal source (TooDeep p) (Syntax q) h g = inr (tt, tt)
-one_source_refusal source (TooDeep p) (TooDeep q) h g = inr (tt, tt)
-one_source_refusal source (TooDeep p) ResultTooLarge h g = absurd g
-one_source_refusal source (TooDeep p) Memory h g = absurd g
 
 -- ---- those of `minify`
 
@@ -116,11 +164,12 @@ minify_cause source TooLarge h = h
 minify_cause source (Lexical p w) h = h
 minify_cause source (Syntax p) h = h
 minify_cause source (TooDeep p) h = h
+minify_cause source (Scope p w) h = h
 minify_cause source Memory h = h
 
 -- a text that is too large
 abbrev IsLarge : List ℕ → Refusal → Type 0
-IsLarge source refusal = (refusal ≡ ResultTooLarge) × (length source ≤ source_limit) × HasLargeText source
+IsLarge source refusal = (refusal ≡ ResultTooLarge) × IsAccepted source × HasLargeText source
 
 -- and there is no further cause but a text that is too large
 minify_causes : (source : List ℕ) (refusal : Refusal) → IsMinifyRefusal source refusal → IsSourceRefusal source refusal ⊎ IsLarge source refusal
@@ -129,24 +178,22 @@ minify_causes source TooLarge h = inl h
 minify_causes source (Lexical p w) h = inl h
 minify_causes source (Syntax p) h = inl h
 minify_causes source (TooDeep p) h = inl h
+minify_causes source (Scope p w) h = inl h
 minify_causes source Memory h = inl h
 
-large_not_refused : (source : List ℕ) (refusal : Refusal) → length source ≤ source_limit → HasLargeText source → IsSourceRefusal source refusal → ⊥
-large_not_refused source refusal within h = source_not_refused source h.minified.pieces h.minified.chunk refusal within h.minified.is
-
--- an accepted source has none
+-- a source that `minify` accepts has none
 pub accepted_not_refused : (source : List ℕ) (refusal : Refusal) → IsMinifyAccepted source → IsMinifyRefusal source refusal → ⊥
 accepted_not_refused source refusal a h =
     elim (minify_causes source refusal h) [
-      | inl cause ↦ source_not_refused source a.accepted.pieces a.accepted.chunk refusal a.accepted.within a.accepted.is cause
+      | inl cause ↦ source_not_refused source refusal a.accepted cause
       | inr l ↦ omega (arith, l.2.large, a.fits, ap length (one_text source l.2.text a.text l.2.minified a.minified))
     ]
 
 pub one_refusal : (source : List ℕ) (refusal other : Refusal) → IsMinifyRefusal source refusal → IsMinifyRefusal source other → IsSameRefusal refusal other
 one_refusal source refusal other h g =
     elim (minify_causes source refusal h) [
-      | inl cause ↦ elim (minify_causes source other g) [ inl second ↦ one_source_refusal source refusal other cause second | inr l ↦ absurd (large_not_refused source refusal l.1 l.2 cause) ]
-      | inr l ↦ elim (minify_causes source other g) [ inl second ↦ absurd (large_not_refused source other l.1 l.2 second) | inr m ↦ inl (l.0 ∙ sym m.0) ]
+      | inl cause ↦ elim (minify_causes source other g) [ inl second ↦ one_source_refusal source refusal other cause second | inr l ↦ absurd (source_not_refused source refusal l.1 cause) ]
+      | inr l ↦ elim (minify_causes source other g) [ inl second ↦ absurd (source_not_refused source other l.1 second) | inr m ↦ inl (l.0 ∙ sym m.0) ]
     ]
 
 -- ---- what is answered
@@ -157,6 +204,7 @@ memory_or_other TooLarge = inr (λ e. cc)
 memory_or_other (Lexical p w) = inr (λ e. cc)
 memory_or_other (Syntax p) = inr (λ e. cc)
 memory_or_other (TooDeep p) = inr (λ e. cc)
+memory_or_other (Scope p w) = inr (λ e. cc)
 memory_or_other ResultTooLarge = inr (λ e. cc)
 
 -- what is no text of an accepted source is want of memory
@@ -168,6 +216,15 @@ answered source (Err e) cause a = elim (memory_or_other e) [ inl memory ↦ inr 
 pub told : (source : List ℕ) (r : Result (Unit {0}) Refusal) → IsErrAnd r (λ e. e ≢ Memory → IsMinifyRefusal source e) → (refusal : Refusal) → IsMinifyRefusal source refusal → AnswersRefusal r refusal ⊎ (r ≡ Err Memory)
 told source (Ok u) cause refusal h = absurd cause
 told source (Err e) cause refusal h = elim (memory_or_other e) [ inl memory ↦ inr (ap Err memory) | inr other ↦ inl (e, one_refusal source refusal e h (cause other), refl) ]
+
+-- the same of what every job says
+pub source_answered : (source : List ℕ) (r : Result (Unit {0}) Refusal) → IsErrAnd r (λ e. e ≢ Memory → IsSourceRefusal source e) → IsAccepted source → (r ≡ Ok tt) ⊎ (r ≡ Err Memory)
+source_answered source (Ok u) cause a = absurd cause
+source_answered source (Err e) cause a = elim (memory_or_other e) [ inl memory ↦ inr (ap Err memory) | inr other ↦ absurd (source_not_refused source e a (cause other)) ]
+
+pub source_told : (source : List ℕ) (r : Result (Unit {0}) Refusal) → IsErrAnd r (λ e. e ≢ Memory → IsSourceRefusal source e) → (refusal : Refusal) → IsSourceRefusal source refusal → AnswersRefusal r refusal ⊎ (r ≡ Err Memory)
+source_told source (Ok u) cause refusal h = absurd cause
+source_told source (Err e) cause refusal h = elim (memory_or_other e) [ inl memory ↦ inr (ap Err memory) | inr other ↦ inl (e, one_source_refusal source refusal e h (cause other), refl) ]
 
 -- an error that is passed on is the same
 pub passed : (source : List ℕ) {e : Refusal} (r : Result (Unit {0}) Refusal) → IsErrAnd r (λ x. x ≡ e) → (e ≢ Memory → IsSourceRefusal source e) → IsErrAnd r (λ x. x ≢ Memory → IsMinifyRefusal source x)

@@ -3,7 +3,7 @@ use Rattle.std.specs.Prelude.{◌≡◌, ℕ, ◌<◌, ◌≤◌, List, ◌++◌
 use Rattle.luf_lex.specs.Tokens.{toks_of, spellings_of}
 use Rattle.luf_lex.specs.declared.token.Piece.{Piece}
 use Rattle.luf_tree.specs.declared.tree.Chunk.{Chunk}
-use Rattle.luf_work.specs.Limits.{source_limit, text_limit}
+use Rattle.luf_work.specs.Limits.{text_limit}
 use Rattle.luf_work.specs.Refusals.{IsSourceRefusal}
 use Rattle.luf_work.specs.Source.{IsSource, IsAccepted}
 use Rattle.luf_work.specs.Text.{IsJoined, hash_text}
@@ -34,7 +34,7 @@ pub record HasLargeText (source : List ℕ) : Type 0 where
 
 -- the cause of each refusal of `minify`: that of every job, and after these a text that is too large
 abbrev pub IsMinifyRefusal : List ℕ → Refusal → Type 0
-IsMinifyRefusal source ResultTooLarge = length source ≤ source_limit × HasLargeText source
+IsMinifyRefusal source ResultTooLarge = IsAccepted source × HasLargeText source
 IsMinifyRefusal source refusal = IsSourceRefusal source refusal
 
 -- the text of a source has the same `#` line, and the same tokens in the same order, and so the same tree

@@ -1,5 +1,5 @@
 -- Why a source is refused by every job, in the order in which the causes are looked for. Our own rules.
-use Rattle.std.specs.Prelude.{◌≡◌, ℕ, ◌<◌, ◌≤◌, ◌⊎◌, List, length, map, slice_index_or, Result, Err}
+use Rattle.std.specs.Prelude.{◌≡◌, ℕ, ◌<◌, ◌≤◌, ◌⊎◌, Some, List, length, map, slice_index_or, Result, Err}
 use Rattle.luf_text.specs.Place.{place_in}
 use Rattle.luf_text.specs.declared.place.Place.{Place}
 use Rattle.luf_lex.specs.Cut.{IsCut, IsLexFault}
@@ -7,9 +7,12 @@ use Rattle.luf_lex.specs.Tokens.{toks_of, spans_of}
 use Rattle.luf_lex.specs.declared.fault.LexWhat.{LexWhat}
 use Rattle.luf_lex.specs.declared.token.Piece.{Piece}
 use Rattle.luf_parse.specs.Cause.{HasNoTree}
+use Rattle.luf_scope.specs.declared.fault.ScopeWhat.{ScopeWhat}
+use Rattle.luf_tree.specs.declared.tree.Chunk.{Chunk}
 use Rattle.luf_work.specs.Limits.{source_limit}
+use Rattle.luf_work.specs.Source.{IsSource, scope_fault_of}
 use Rattle.luf_work.specs.declared.refusal.Refusal.{Refusal}
-use Rattle.luf_work.specs.declared.refusal.Refusal.TheVariants.{TooLarge, Lexical, Syntax, TooDeep, ResultTooLarge, Memory}
+use Rattle.luf_work.specs.declared.refusal.Refusal.TheVariants.{TooLarge, Lexical, Syntax, TooDeep, Scope, ResultTooLarge, Memory}
 
 -- the lexical fault of a source, by its line and column
 pub record IsLexicalAt (source : List ℕ) (place : Place) (what : LexWhat) : Type 0 where
@@ -31,6 +34,15 @@ pub record HasNoTreeAt (source : List ℕ) (place : Place) : Type 0 where
   pub within : token ≤ length (toks_of pieces)
   pub place_is : place ≡ place_in source (start_of source pieces token)
 
+-- A source with a tree whose first scope fault this is, told at the line and column of its token.
+pub record HasScopeFaultAt (source : List ℕ) (place : Place) (what : ScopeWhat) : Type 0 where
+  pub pieces : List Piece
+  pub chunk : Chunk
+  pub is : IsSource source pieces chunk
+  pub token : ℕ
+  pub fault : scope_fault_of source pieces chunk ≡ Some (record { token = token; what = what })
+  pub place_is : place ≡ place_in source (start_of source pieces token)
+
 -- The cause of a refusal by every job. The limit of the source is looked at first. A text that is too large is the
 -- cause of single jobs, and want of memory has no cause in the source.
 abbrev pub IsSourceRefusal : List ℕ → Refusal → Type 0
@@ -38,6 +50,7 @@ IsSourceRefusal source TooLarge = source_limit < length source
 IsSourceRefusal source (Lexical place what) = length source ≤ source_limit × IsLexicalAt source place what
 IsSourceRefusal source (Syntax place) = length source ≤ source_limit × HasNoTreeAt source place
 IsSourceRefusal source (TooDeep place) = length source ≤ source_limit × HasNoTreeAt source place
+IsSourceRefusal source (Scope place what) = length source ≤ source_limit × HasScopeFaultAt source place what
 IsSourceRefusal source ResultTooLarge = ⊥
 IsSourceRefusal source Memory = ⊥
 

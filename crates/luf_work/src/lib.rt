@@ -1,13 +1,16 @@
 //! The jobs of luafmt, from the bytes of a source to the bytes of a text.
 #![tactic(auto)]
 
+mod check;
 mod laws;
 mod limits;
 mod minify;
 mod refusal;
+mod source;
 mod text;
 
-pub use laws::{accepted_not_refused, one_refusal, one_text};
+pub use check::check_bytes;
+pub use laws::{accepted_not_refused, one_refusal, one_source_refusal, one_text, source_not_refused};
 pub use limits::{SOURCE_LIMIT, TEXT_LIMIT};
 pub use minify::minify_bytes;
 pub use refusal::Refusal;

@@ -1,22 +1,18 @@
 // `minify`: the tokens of a source with the fewest spaces.
 ghost use Rattle.std.specs.Prelude.{◌≡◌, ◌≢◌, ◌<◌, ◌≤◌, ◌↔◌, ◌⊎◌, ◌++◌, ℕ, List, length, take, Ok, Err, IfOk, IfErr, OnOk, OnErr, IsErrOf};
-ghost use Rattle.luf_text.specs.Place.{place_in};
 ghost use Rattle.luf_lex.specs.Cut.{IsCut};
 ghost use Rattle.luf_lex.specs.Tokens.{spellings_of};
 ghost use Rattle.luf_work.specs.Limits.{source_limit, text_limit};
 ghost use Rattle.luf_work.specs.Minify.{IsMinified, IsMinifyAccepted, IsMinifyRefusal, SameTokens};
-ghost use Rattle.luf_work.specs.Refusals.{start_of, IsSourceRefusal, AnswersRefusal};
-ghost use Rattle.luf_work.specs.Source.{IsSource};
+ghost use Rattle.luf_work.specs.Refusals.{AnswersRefusal};
 ghost use Rattle.luf_work.specs.Text.{IsJoined, hash_text};
 ghost use Rattle.luf_work.specs.declared.refusal.Refusal.{Refusal as Cause};
 
+use crate::source::accepted;
 use crate::text::{write_hash_line, write_tokens};
-use crate::{Refusal, SOURCE_LIMIT, TEXT_LIMIT};
-use luf_lex::{Cut, LexErr, cut};
+use crate::{Refusal, TEXT_LIMIT};
+use luf_lex::Cut;
 use luf_memory::Memory;
-use luf_parse::{ParseErr, parse};
-use luf_text::{Place, place_of};
-use luf_tree::Chunk;
 use std::alloc::Global;
 
 /// Appends the minified text of a source. A source that `minify` accepts has `Ok` or `Memory`, and no other has `Ok`.
@@ -31,7 +27,8 @@ use std::alloc::Global;
 /// - `Lexical`: the source has no cut. Its first fault is told, by place and kind.
 /// - `Syntax` or `TooDeep`: the tokens have no tree of at most 200 levels. Which of the two is answered, and at which
 ///   token, is not said.
-/// - `ResultTooLarge`: the source has a minified text, which has more than 4,194,304 bytes.
+/// - `Scope`: a name or a jump is refused. The first such fault is told, by place and word.
+/// - `ResultTooLarge`: the source is accepted by every job, and its minified text has more than 4,194,304 bytes.
 /// - `Memory`: no memory was found. It alone has no cause in the source.
 pub fn minify_bytes(alloc: Global, src: &[u8], into: &mut Vec<u8>) -> Result<(), Refusal>
     ensures accepted { OnOk result (IsMinifyAccepted src.now) }
@@ -43,11 +40,7 @@ pub fn minify_bytes(alloc: Global, src: &[u8], into: &mut Vec<u8>) -> Result<(),
     ensures too_large { IsErrOf result Refusal.TooLarge ↔ (source_limit < length src.now) }
     ensures err { OnErr result (into.new.items ≡ into.old.items) }
 {
-    if src.len() > SOURCE_LIMIT {
-        return Err(Refusal::TooLarge);
-    }
-    let pieces = pieces_of(alloc, src)?;
-    let _chunk = tree_of(alloc, src, &pieces)?;
+    let pieces = accepted(alloc, src)?;
     let len = into.len();
     if let Err(e) = write_text(src, &pieces, into) {
         into.truncate(len);
@@ -58,50 +51,6 @@ pub fn minify_bytes(alloc: Global, src: &[u8], into: &mut Vec<u8>) -> Result<(),
         return Err(Refusal::ResultTooLarge);
     }
     Ok(())
-}
-
-/// The pieces of a source, or the place of its lexical fault.
-fn pieces_of(alloc: Global, src: &[u8]) -> Result<Cut, Refusal>
-    requires { length src.now ≤ source_limit }
-    ensures ok { IfOk result (λ pieces. IsCut src.now pieces) }
-    ensures refused { IfErr result (λ refusal. refusal ≢ Refusal.Memory → IsSourceRefusal src.now refusal) }
-    ensures within { ¬ IsErrOf result Refusal.TooLarge }
-{
-    match cut(alloc, src) {
-        Ok(pieces) => Ok(pieces),
-        Err(LexErr::Bad { at, what }) => Err(Refusal::Lexical(place_of(src, at), what)),
-        Err(LexErr::Memory) => Err(Refusal::Memory),
-    }
-}
-
-/// The tree of a source's tokens, or the place of one of them or of the end, where there is none.
-fn tree_of(alloc: Global, src: &[u8], pieces: &Cut) -> Result<Chunk, Refusal>
-    requires within { length src.now ≤ source_limit }
-    requires cut { IsCut src.now pieces.now }
-    ensures ok { IfOk result (λ chunk. IsSource src.now pieces.now chunk) }
-    ensures refused { IfErr result (λ refusal. refusal ≢ Refusal.Memory → IsSourceRefusal src.now refusal) }
-    ensures within { ¬ IsErrOf result Refusal.TooLarge }
-{
-    match parse(alloc, pieces) {
-        Ok(chunk) => Ok(chunk),
-        Err(ParseErr::Syntax { token }) => Err(Refusal::Syntax(place_of_token(src, pieces, token))),
-        Err(ParseErr::TooDeep { token }) => Err(Refusal::TooDeep(place_of_token(
-            src, pieces, token,
-        ))),
-        Err(ParseErr::Memory) => Err(Refusal::Memory),
-    }
-}
-
-/// The place of a token, or of the end of the source where there are not so many.
-fn place_of_token(src: &[u8], pieces: &Cut, token: u32) -> Place
-    requires within { length src.now ≤ source_limit }
-    requires cut { IsCut src.now pieces.now }
-    ensures { result ≡ place_in src.now (start_of src.now pieces.now token) }
-{
-    match pieces.span(token) {
-        Some(span) => place_of(src, span.from),
-        None => place_of(src, src.len() as u32),
-    }
 }
 
 /// Appends the `#` line and the tokens. What an error leaves begins with what was there.

@@ -1,6 +1,7 @@
 // Why a source is not accepted.
 use luf_lex::LexWhat;
 use luf_memory::Memory;
+use luf_scope::ScopeWhat;
 use luf_text::Place;
 
 /// Why a job gives no text.
@@ -15,6 +16,8 @@ pub enum Refusal {
     Syntax(Place),
     /// As for `Syntax`.
     TooDeep(Place),
+    /// A name or a jump is refused: where the token of the first such fault is, and why.
+    Scope(Place, ScopeWhat),
     /// The text would have more than 4,194,304 bytes.
     ResultTooLarge,
     /// No memory was found.

@@ -1,16 +1,11 @@
 use Rattle.std.proofs.Common.{◌++◌, Err, length, length-append, ap, arith}
 use Rattle.luf_work.specs.Text.{hash_text}
 use Rattle.luf_work.specs.declared.refusal.Refusal.TheVariants.{ResultTooLarge}
-use Rattle.luf_work.proofs.RefusalLemmas.{minified_of, passed, passed_on, answered, told, accepted_not_refused}
+use Rattle.luf_work.proofs.RefusalLemmas.{accepted_of, minified_of, passed, passed_on, answered, told, accepted_not_refused}
 use Rattle.luf_work.proofs.TextAgain.{same_tokens}
 use Rattle.luf_work.proofs.minify.minify_bytes.Goals as goal
 
--- ---- the source is too large
-
-pub returns-then-src-gt-SOURCE_LIMIT-clause-exact : goal.returns-then-src-gt-SOURCE_LIMIT-clause-exact
-returns-then-src-gt-SOURCE_LIMIT-clause-exact c = told c.args.src.now _ (λ other. c.if-src-gt-SOURCE_LIMIT.true)
-
--- ---- it has no cut
+-- ---- it is not accepted
 
 pub returns-in_err-pieces-clause-refused : goal.returns-in_err-pieces-clause-refused
 returns-in_err-pieces-clause-refused c = passed_on c.args.src.now _ c.from_residual.ensures.1 c.in_err-pieces.ensures.refused
@@ -21,17 +16,6 @@ returns-in_err-pieces-clause-complete c = answered c.args.src.now _ (passed c.ar
 pub returns-in_err-pieces-clause-exact : goal.returns-in_err-pieces-clause-exact
 returns-in_err-pieces-clause-exact c = told c.args.src.now _ (passed c.args.src.now _ c.from_residual.ensures.1 c.in_err-pieces.ensures.refused)
 
--- ---- it has no tree
-
-pub returns-in_err-_chunk-clause-refused : goal.returns-in_err-_chunk-clause-refused
-returns-in_err-_chunk-clause-refused c = passed_on c.args.src.now _ c.from_residual-in_err-_chunk.ensures.1 c.in_err-_chunk.ensures.refused
-
-pub returns-in_err-_chunk-clause-complete : goal.returns-in_err-_chunk-clause-complete
-returns-in_err-_chunk-clause-complete c = answered c.args.src.now _ (passed c.args.src.now _ c.from_residual-in_err-_chunk.ensures.1 c.in_err-_chunk.ensures.refused)
-
-pub returns-in_err-_chunk-clause-exact : goal.returns-in_err-_chunk-clause-exact
-returns-in_err-_chunk-clause-exact c = told c.args.src.now _ (passed c.args.src.now _ c.from_residual-in_err-_chunk.ensures.1 c.in_err-_chunk.ensures.refused)
-
 -- ---- its text is too large
 
 pub returns-then-len-gt-TEXT_LIMIT-clause-refused : goal.returns-then-len-gt-TEXT_LIMIT-clause-refused
@@ -40,10 +24,10 @@ returns-then-len-gt-TEXT_LIMIT-clause-refused c = λ other.
     let pieces = c.in_ok-pieces.pieces in
     let written = c.in_default.ensures.ok in
     let text = hash_text source pieces ++ written.0 in (
-      omega (arith, c.if-src-gt-SOURCE_LIMIT.false),
+      accepted_of c.args.src.now pieces c.in_ok-pieces.ensures.within c.in_ok-pieces.ensures.ok,
       record {
         text = text;
-        minified = minified_of source pieces c.in_ok-_chunk._chunk written.0 c.in_ok-_chunk.ensures.ok written.1;
+        minified = minified_of source pieces c.in_ok-pieces.ensures.ok.0 written.0 c.in_ok-pieces.ensures.ok.1 written.1;
         large = omega (arith, c.if-len-gt-TEXT_LIMIT.true, ap length written.2, length-append c.args.into.now.items text, c.len-len.ensures);
       },
     )
@@ -63,9 +47,9 @@ returns-clause-accepted c =
     let written = c.in_default.ensures.ok in
     let text = hash_text source pieces ++ written.0 in
     record {
-      accepted = record { within = omega (arith, c.if-src-gt-SOURCE_LIMIT.false); pieces = pieces; chunk = c.in_ok-_chunk._chunk; is = c.in_ok-_chunk.ensures.ok };
+      accepted = accepted_of source pieces c.in_ok-pieces.ensures.within c.in_ok-pieces.ensures.ok;
       text = text;
-      minified = minified_of source pieces c.in_ok-_chunk._chunk written.0 c.in_ok-_chunk.ensures.ok written.1;
+      minified = minified_of source pieces c.in_ok-pieces.ensures.ok.0 written.0 c.in_ok-pieces.ensures.ok.1 written.1;
       fits = omega (arith, c.if-len-gt-TEXT_LIMIT.false, ap length written.2, length-append c.args.into.now.items text, c.len-len.ensures);
     }
 
@@ -79,8 +63,8 @@ returns-clause-ok c =
     let written = c.in_default.ensures.ok in
     let text = hash_text source pieces ++ written.0 in (
       text,
-      minified_of source pieces c.in_ok-_chunk._chunk written.0 c.in_ok-_chunk.ensures.ok written.1,
-      same_tokens source pieces c.in_ok-_chunk._chunk written.0 c.in_ok-_chunk.ensures.ok written.1,
+      minified_of source pieces c.in_ok-pieces.ensures.ok.0 written.0 c.in_ok-pieces.ensures.ok.1 written.1,
+      same_tokens source pieces c.in_ok-pieces.ensures.ok.0 written.0 c.in_ok-pieces.ensures.ok.1 written.1,
       omega (arith, c.if-len-gt-TEXT_LIMIT.false, ap length written.2, length-append c.args.into.now.items text, c.len-len.ensures),
       written.2,
     )

@@ -2,7 +2,7 @@ use Rattle.std.proofs.Common.{ap, ◌∙◌, arith, Some, None}
 use Rattle.luf_text.specs.Place.{place_in}
 use Rattle.luf_lex.proofs.SpellingLemmas.{span_within}
 use Rattle.luf_work.proofs.RefusalLemmas.{start_is}
-use Rattle.luf_work.proofs.minify.place_of_token.Goals as goal
+use Rattle.luf_work.proofs.source.place_of_token.Goals as goal
 
 pub place_of-requires-clause-within : goal.place_of-requires-clause-within
 place_of-requires-clause-within c =

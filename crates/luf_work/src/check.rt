@@ -1,0 +1,34 @@
+// `check`: whether a source is accepted.
+ghost use Rattle.std.specs.Prelude.{◌≡◌, ◌≢◌, ◌<◌, ◌↔◌, ◌⊎◌, length, Ok, Err, IfOk, IfErr, IsErrOf};
+ghost use Rattle.luf_work.specs.Limits.{source_limit};
+ghost use Rattle.luf_work.specs.Refusals.{IsSourceRefusal, AnswersRefusal};
+ghost use Rattle.luf_work.specs.Source.{IsAccepted};
+ghost use Rattle.luf_work.specs.declared.refusal.Refusal.{Refusal as Cause};
+
+use crate::Refusal;
+use crate::source::accepted;
+use std::alloc::Global;
+
+/// Looks at a source as every job does. `Ok` says that it is accepted.
+///
+/// # Errors
+///
+/// Each but `Memory` comes exactly where its cause holds, if memory is found, in the order of `Refusal`.
+/// `one_source_refusal` says that no two of these causes hold of one source.
+///
+/// - `TooLarge`: the source has more than 4,194,304 bytes. Nothing else is looked at, and `Memory` is not answered.
+/// - `Lexical`: the source has no cut. Its first fault is told, by place and kind.
+/// - `Syntax` or `TooDeep`: the tokens have no tree of at most 200 levels. Which of the two is answered, and at which
+///   token, is not said.
+/// - `Scope`: a name or a jump is refused. The first such fault is told, by place and word.
+/// - `Memory`: no memory was found. It alone has no cause in the source.
+pub fn check_bytes(alloc: Global, src: &[u8]) -> Result<(), Refusal>
+    ensures accepted { IfOk result (λ _. IsAccepted src.now) }
+    ensures complete { IsAccepted src.now → (result ≡ Ok tt) ⊎ (result ≡ Err Refusal.Memory) }
+    ensures refused { IfErr result (λ refusal. refusal ≢ Refusal.Memory → IsSourceRefusal src.now refusal) }
+    ensures exact { (refusal : Cause) → IsSourceRefusal src.now refusal → AnswersRefusal result refusal ⊎ (result ≡ Err Refusal.Memory) }
+    ensures too_large { IsErrOf result Refusal.TooLarge ↔ (source_limit < length src.now) }
+{
+    accepted(alloc, src)?;
+    Ok(())
+}
