@@ -20,8 +20,8 @@ use Rattle.luf_descent.specs.Follow.{NotAt, NotAssigned, NotString, IsSeparator,
 use Rattle.luf_descent.specs.Parts.{ReadSteps, ReadChain, ReadExpr, ReadOperand, ReadSimple, ReadPrefix, ReadHead, ReadParen, ReadSuffixes}
 use Rattle.luf_descent.specs.Reads.{begins_suffix}
 use Rattle.luf_descent.specs.Shapes.{suffixed_shape, sign_leaf, leaf_kind}
-use Rattle.luf_parse.specs.declared.prefixes.Shape.{Shape}
-use Rattle.luf_parse.specs.declared.prefixes.Shape.TheVariants.{Paren}
+use Rattle.luf_descent.specs.declared.prefixes.Shape.{Shape}
+use Rattle.luf_descent.specs.declared.prefixes.Shape.TheVariants.{Paren}
 use Rattle.luf_descent.proofs.Exactness.{alone_form, alone_next, alone_is, alone_triple, then_rest}
 use Rattle.luf_descent.proofs.Begins.{unary_at, simple_begins, prefix_begins, paren_begins, table_begins, string_begins, expr_name_end}
 use Rattle.luf_descent.proofs.Ends.{expr_to, head_to}

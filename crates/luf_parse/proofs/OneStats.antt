@@ -15,8 +15,8 @@ use Rattle.luf_tree.specs.Grammar.{At, expression, IsToken, IsString, AreDeclare
 use Rattle.luf_descent.specs.Exact.{Alone}
 use Rattle.luf_descent.specs.Follow.{NotAt, EndsExpr, EndsExprs, begins_prefix, ends_block, ends_arms, ends_return, follows_stat, EndsBlock, EndsStat, EndsArms}
 use Rattle.luf_descent.specs.Parts.{EndsDeclared, ReadPrefix, ReadBlock, ReadStats, ReadSemicolon, ReadEnded, ReadVariable, ReadMoreTargets, ReadElse, ReadForStep}
-use Rattle.luf_parse.specs.declared.prefixes.PrefixExpr.{PrefixExpr}
-use Rattle.luf_parse.specs.declared.prefixes.Shape.TheVariants.{Variable}
+use Rattle.luf_descent.specs.declared.prefixes.PrefixExpr.{PrefixExpr}
+use Rattle.luf_descent.specs.declared.prefixes.Shape.TheVariants.{Variable}
 use Rattle.luf_descent.proofs.Exactness.{alone_next, alone_is, then_rest, token_only}
 use Rattle.luf_descent.proofs.Begins.{prefix_begins}
 use Rattle.luf_descent.proofs.Ends.{moved}
