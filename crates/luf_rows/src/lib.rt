@@ -17,6 +17,8 @@ mod outside;
 #[cfg(test)]
 mod places;
 #[cfg(test)]
+mod scopes;
+#[cfg(test)]
 mod sources;
 #[cfg(test)]
 mod spaces;
