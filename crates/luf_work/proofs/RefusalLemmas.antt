@@ -19,7 +19,8 @@ use Rattle.luf_work.specs.Refusals.{start_of, IsLexicalAt, HasNoTreeAt, IsSource
 use Rattle.luf_work.specs.Source.{IsSource, IsAccepted}
 use Rattle.luf_work.specs.Text.{IsJoined, nothing, alone, apart, spaced, hash_text}
 use Rattle.luf_work.specs.declared.refusal.Refusal.{Refusal}
-use Rattle.luf_work.specs.declared.refusal.Refusal.TheVariants.{TooLarge, Lexical, Syntax, TooDeep, ResultTooLarge, Memory}
+use Rattle.luf_work.specs.declared.refusal.Refusal.TheVariants.{TooLarge, Lexical, Syntax, TooDeep, Chunk as BadChunk, ResultTooLarge, Memory}
+use Rattle.luf_work.proofs.WantOfMemory.{memory_or_other}
 
 -- where a token starts, by its span
 pub start_is : (source : List ℕ) (pieces : List Piece) (token : ℕ) (o : Option Span) → o ≡ slice_get (spans_of pieces) token → unwrap_or (option_map (λ s. s.from) o) (length source) ≡ start_of source pieces token
@@ -67,6 +68,7 @@ source_not_refused source pieces chunk (Syntax place) within is cause = no_tree_
 source_not_refused source pieces chunk (TooDeep place) within is cause = no_tree_no_source source pieces chunk place cause.1 is
 source_not_refused source pieces chunk ResultTooLarge within is cause = cause
 source_not_refused source pieces chunk Memory within is cause = cause
+source_not_refused source pieces chunk (BadChunk at what) within is cause = cause
 
 -- a source has one lexical fault at most, at one place
 one_lexical : (source : List ℕ) (place : Place) (what : LexWhat) (place' : Place) (what' : LexWhat) → IsLexicalAt source place what → IsLexicalAt source place' what' → Lexical place what ≡ Lexical place' what'
@@ -82,30 +84,35 @@ fault_no_tree source place what place' h g = cut_excludes_fault source g.pieces 
 one_source_refusal : (source : List ℕ) (refusal other : Refusal) → IsSourceRefusal source refusal → IsSourceRefusal source other → IsSameRefusal refusal other
 one_source_refusal source ResultTooLarge other h g = absurd h
 one_source_refusal source Memory other h g = absurd h
+one_source_refusal source (BadChunk at w) other h g = absurd h
 one_source_refusal source TooLarge TooLarge h g = inl refl
 one_source_refusal source TooLarge (Lexical p w) h g = absurd (omega (arith, h, g.0))
 one_source_refusal source TooLarge (Syntax p) h g = absurd (omega (arith, h, g.0))
 one_source_refusal source TooLarge (TooDeep p) h g = absurd (omega (arith, h, g.0))
 one_source_refusal source TooLarge ResultTooLarge h g = absurd g
 one_source_refusal source TooLarge Memory h g = absurd g
+one_source_refusal source TooLarge (BadChunk at v) h g = absurd g
 one_source_refusal source (Lexical p w) TooLarge h g = absurd (omega (arith, g, h.0))
 one_source_refusal source (Lexical p w) (Lexical q v) h g = inl (one_lexical source p w q v h.1 g.1)
 one_source_refusal source (Lexical p w) (Syntax q) h g = absurd (fault_no_tree source p w q h.1 g.1)
 one_source_refusal source (Lexical p w) (TooDeep q) h g = absurd (fault_no_tree source p w q h.1 g.1)
 one_source_refusal source (Lexical p w) ResultTooLarge h g = absurd g
 one_source_refusal source (Lexical p w) Memory h g = absurd g
+one_source_refusal source (Lexical p w) (BadChunk at v) h g = absurd g
 one_source_refusal source (Syntax p) TooLarge h g = absurd (omega (arith, g, h.0))
 one_source_refusal source (Syntax p) (Lexical q v) h g = absurd (fault_no_tree source q v p g.1 h.1)
 one_source_refusal source (Syntax p) (Syntax q) h g = inr (tt, tt)
 one_source_refusal source (Syntax p) (TooDeep q) h g = inr (tt, tt)
 one_source_refusal source (Syntax p) ResultTooLarge h g = absurd g
 one_source_refusal source (Syntax p) Memory h g = absurd g
+one_source_refusal source (Syntax p) (BadChunk at v) h g = absurd g
 one_source_refusal source (TooDeep p) TooLarge h g = absurd (omega (arith, g, h.0))
 one_source_refusal source (TooDeep p) (Lexical q v) h g = absurd (fault_no_tree source q v p g.1 h.1)
 one_source_refusal source (TooDeep p) (Syntax q) h g = inr (tt, tt)
 one_source_refusal source (TooDeep p) (TooDeep q) h g = inr (tt, tt)
 one_source_refusal source (TooDeep p) ResultTooLarge h g = absurd g
 one_source_refusal source (TooDeep p) Memory h g = absurd g
+one_source_refusal source (TooDeep p) (BadChunk at v) h g = absurd g
 
 -- ---- those of `minify`
 
@@ -116,6 +123,7 @@ minify_cause source TooLarge h = h
 minify_cause source (Lexical p w) h = h
 minify_cause source (Syntax p) h = h
 minify_cause source (TooDeep p) h = h
+minify_cause source (BadChunk at w) h = h
 minify_cause source Memory h = h
 
 -- a text that is too large
@@ -129,6 +137,7 @@ minify_causes source TooLarge h = inl h
 minify_causes source (Lexical p w) h = inl h
 minify_causes source (Syntax p) h = inl h
 minify_causes source (TooDeep p) h = inl h
+minify_causes source (BadChunk at w) h = inl h
 minify_causes source Memory h = inl h
 
 large_not_refused : (source : List ℕ) (refusal : Refusal) → length source ≤ source_limit → HasLargeText source → IsSourceRefusal source refusal → ⊥
@@ -150,14 +159,6 @@ one_refusal source refusal other h g =
     ]
 
 -- ---- what is answered
-
-memory_or_other : (refusal : Refusal) → (refusal ≡ Memory) ⊎ (refusal ≢ Memory)
-memory_or_other Memory = inl refl
-memory_or_other TooLarge = inr (λ e. cc)
-memory_or_other (Lexical p w) = inr (λ e. cc)
-memory_or_other (Syntax p) = inr (λ e. cc)
-memory_or_other (TooDeep p) = inr (λ e. cc)
-memory_or_other ResultTooLarge = inr (λ e. cc)
 
 -- what is no text of an accepted source is want of memory
 pub answered : (source : List ℕ) (r : Result (Unit {0}) Refusal) → IsErrAnd r (λ e. e ≢ Memory → IsMinifyRefusal source e) → IsMinifyAccepted source → (r ≡ Ok tt) ⊎ (r ≡ Err Memory)

@@ -2,6 +2,7 @@
 use luf_lex::LexWhat;
 use luf_memory::Memory;
 use luf_text::Place;
+use luf_undump::ChunkWhat;
 
 /// Why a job gives no text.
 #[derive(Clone, Copy, Debug, PartialEq, Eq)]
@@ -15,6 +16,8 @@ pub enum Refusal {
     Syntax(Place),
     /// As for `Syntax`.
     TooDeep(Place),
+    /// The bytes are no chunk: the first byte of the first field that is wrong, and how it is wrong.
+    Chunk(u32, ChunkWhat),
     /// The text would have more than 4,194,304 bytes.
     ResultTooLarge,
     /// No memory was found.
