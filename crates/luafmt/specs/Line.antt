@@ -3,8 +3,10 @@ use Rattle.std.specs.Prelude.{ℕ, List, [], ◌∷◌, ◌++◌, codes, decimal
 use Rattle.luf_lex.specs.declared.fault.LexWhat.{LexWhat}
 use Rattle.luf_lex.specs.declared.fault.LexWhat.TheVariants.{NoToken, BadNumeral, BadEscape, OpenString, OpenLong}
 use Rattle.luf_work.specs.declared.refusal.Refusal.{Refusal}
-use Rattle.luf_work.specs.declared.refusal.Refusal.TheVariants.{TooLarge, Lexical, Syntax, TooDeep, ResultTooLarge, Memory}
+use Rattle.luf_work.specs.declared.refusal.Refusal.TheVariants.{TooLarge, Lexical, Syntax, TooDeep, Chunk, ResultTooLarge, Memory}
 use Rattle.luf_text.specs.declared.place.Place.{Place}
+use Rattle.luf_undump.specs.declared.error.ChunkWhat.{ChunkWhat}
+use Rattle.luf_undump.specs.declared.error.ChunkWhat.TheVariants.{BadHeader, Short, BadSize, BadTag, Nested, Trailing}
 
 -- a line of errs, ended by LF
 abbrev pub line_of : List ℕ → List ℕ
@@ -22,6 +24,19 @@ word_of OpenLong = codes "OpenLong"
 abbrev pub placed : Place → List ℕ → List ℕ
 placed place word = codes "-:" ++ decimal place.line ++ codes ":" ++ decimal place.column ++ codes ": " ++ word
 
+-- the word of a field of a chunk that is wrong
+abbrev pub chunk_word : ChunkWhat → List ℕ
+chunk_word BadHeader = codes "BadHeader"
+chunk_word Short = codes "Short"
+chunk_word BadSize = codes "BadSize"
+chunk_word BadTag = codes "BadTag"
+chunk_word Nested = codes "Nested"
+chunk_word Trailing = codes "Trailing"
+
+-- a word with its place in a chunk: the first byte of a field, in decimal
+abbrev pub at_byte : ℕ → List ℕ → List ℕ
+at_byte at word = codes "-:" ++ decimal at ++ codes ": " ++ word
+
 -- What tells a refusal of the source from standard input, which is named `-`: its place, where it has one, and its
 -- word. Want of memory has no line.
 abbrev pub refusal_line : Refusal → Option (List ℕ)
@@ -29,5 +44,6 @@ refusal_line TooLarge = Some (codes "-: TooLarge")
 refusal_line (Lexical place what) = Some (placed place (word_of what))
 refusal_line (Syntax place) = Some (placed place (codes "Syntax"))
 refusal_line (TooDeep place) = Some (placed place (codes "TooDeep"))
+refusal_line (Chunk at what) = Some (at_byte at (chunk_word what))
 refusal_line ResultTooLarge = Some (codes "-: ResultTooLarge")
 refusal_line Memory = None

@@ -1,11 +1,12 @@
 //! The line that tells a refusal.
 ghost use Rattle.std.specs.Prelude.{◌≡◌, string_bytes, Some, option_map, IfOk};
 ghost use Rattle.std.specs.Cow.{cow_str_bytes};
-ghost use Rattle.luafmt.specs.Line.{line_of, placed, word_of, refusal_line as spec_refusal_line};
+ghost use Rattle.luafmt.specs.Line.{at_byte, chunk_word, line_of, placed, word_of, refusal_line as spec_refusal_line};
 
 use luf_lex::LexWhat;
 use luf_memory::Memory;
 use luf_text::Place;
+use luf_undump::ChunkWhat;
 use luf_work::Refusal;
 use std::alloc::Global;
 use std::borrow::CowStr;
@@ -22,6 +23,7 @@ pub(crate) fn refusal_line(alloc: Global, refusal: Refusal) -> Result<CowStr<'st
         }
         Refusal::Syntax(place) => Ok(CowStr::Owned(placed_line(alloc, place, "Syntax")?)),
         Refusal::TooDeep(place) => Ok(CowStr::Owned(placed_line(alloc, place, "TooDeep")?)),
+        Refusal::Chunk(at, what) => Ok(CowStr::Owned(byte_line(alloc, at, chunk_word(what))?)),
         Refusal::ResultTooLarge => Ok(CowStr::Borrowed("-: ResultTooLarge\n")),
         Refusal::Memory => Err(Memory),
     }
@@ -34,6 +36,12 @@ fn placed_line(alloc: Global, place: Place, word: &str) -> Result<String, Memory
     Ok(format!(in alloc; "-:{line}:{column}: {word}\n")?)
 }
 
+fn byte_line(alloc: Global, at: u32, word: &str) -> Result<String, Memory>
+    ensures { IfOk result (λ text. string_bytes text ≡ line_of (at_byte at word.now)) }
+{
+    Ok(format!(in alloc; "-:{at}: {word}\n")?)
+}
+
 fn word(what: LexWhat) -> &'static str
     ensures { result.now ≡ word_of what }
 {
@@ -43,5 +51,18 @@ fn word(what: LexWhat) -> &'static str
         LexWhat::BadEscape => "BadEscape",
         LexWhat::OpenString => "OpenString",
         LexWhat::OpenLong => "OpenLong",
+    }
+}
+
+fn chunk_word(what: ChunkWhat) -> &'static str
+    ensures { result.now ≡ chunk_word what }
+{
+    match what {
+        ChunkWhat::BadHeader => "BadHeader",
+        ChunkWhat::Short => "Short",
+        ChunkWhat::BadSize => "BadSize",
+        ChunkWhat::BadTag => "BadTag",
+        ChunkWhat::Nested => "Nested",
+        ChunkWhat::Trailing => "Trailing",
     }
 }

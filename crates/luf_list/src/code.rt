@@ -1,5 +1,5 @@
 //! The lines of code.
-ghost use Rattle.std.specs.Prelude.{◌≡◌, ◌++◌, ◌<◌, ◌≤◌, string_bytes, IfOk, None, OnOk};
+ghost use Rattle.std.specs.Prelude.{◌≡◌, ◌++◌, ◌<◌, ◌≤◌, length, take, string_bytes, IfOk, None, OnOk, OnErr};
 ghost use Rattle.luf_list.specs.Listing.{abc_line, abck_line, abx_line, asbx_line, ax_line, code_line, code_lines, hex, hex_digit, instruction_line, line_front, named_line, sj_line};
 
 use luf_memory::Memory;
@@ -7,7 +7,8 @@ use luf_ops::Instr;
 use std::alloc::Global;
 
 pub(crate) fn write_code(alloc: Global, code: &[u32], into: &mut Vec<u8>) -> Result<(), Memory>
-    ensures { OnOk result (into.new.items ≡ into.old.items ++ code_lines 0 code.now) }
+    ensures ok { OnOk result (into.new.items ≡ into.old.items ++ code_lines 0 code.now) }
+    ensures err { OnErr result (take (length into.old.items) into.new.items ≡ into.old.items) }
 {
     for (position, word) in code.iter().enumerate() {
         match Instr::decode(*word) {
@@ -92,7 +93,8 @@ fn sj_line(alloc: Global, position: usize, name: &str, sj: i32) -> Result<String
 
 /// Appends the line of a word that is no instruction.
 fn write_raw(alloc: Global, position: usize, word: u32, into: &mut Vec<u8>) -> Result<(), Memory>
-    ensures { OnOk result (into.new.items ≡ into.old.items ++ code_line position word None) }
+    ensures ok { OnOk result (into.new.items ≡ into.old.items ++ code_line position word None) }
+    ensures err { OnErr result (take (length into.old.items) into.new.items ≡ into.old.items) }
 {
     let front = format!(in alloc; "{position} RAW ")?;
     into.extend_from_slice(front.as_bytes())?;
@@ -104,7 +106,8 @@ fn write_raw(alloc: Global, position: usize, word: u32, into: &mut Vec<u8>) -> R
 /// Appends so many hexadecimal digits of a number, the lowest last.
 pub(crate) fn write_hex(number: u64, digits: u32, into: &mut Vec<u8>) -> Result<(), Memory>
     requires { digits ≤ 16 }
-    ensures { OnOk result (into.new.items ≡ into.old.items ++ hex digits number) }
+    ensures ok { OnOk result (into.new.items ≡ into.old.items ++ hex digits number) }
+    ensures err { OnErr result (take (length into.old.items) into.new.items ≡ into.old.items) }
 {
     let mut left = digits;
     while 0 < left {

@@ -1,5 +1,5 @@
 //! The lines of constants.
-ghost use Rattle.std.specs.Prelude.{◌≡◌, [], ◌∷◌, ◌++◌, codes, OnOk};
+ghost use Rattle.std.specs.Prelude.{◌≡◌, [], ◌∷◌, ◌++◌, codes, length, take, OnOk, OnErr};
 ghost use Rattle.std.specs.List.{flat_map};
 ghost use Rattle.luf_list.specs.Listing.{constant_line, constant_lines, constant_text, escaped, is_printable, is_quoted};
 
@@ -13,7 +13,8 @@ pub(crate) fn write_constants(
     consts: &[Const],
     into: &mut Vec<u8>,
 ) -> Result<(), Memory>
-    ensures { OnOk result (into.new.items ≡ into.old.items ++ constant_lines 0 consts.now) }
+    ensures ok { OnOk result (into.new.items ≡ into.old.items ++ constant_lines 0 consts.now) }
+    ensures err { OnErr result (take (length into.old.items) into.new.items ≡ into.old.items) }
 {
     for (index, constant) in consts.iter().enumerate() {
         write_line(alloc, index, constant, into)?;
@@ -27,7 +28,8 @@ fn write_line(
     constant: &Const,
     into: &mut Vec<u8>,
 ) -> Result<(), Memory>
-    ensures { OnOk result (into.new.items ≡ into.old.items ++ constant_line index constant.now) }
+    ensures ok { OnOk result (into.new.items ≡ into.old.items ++ constant_line index constant.now) }
+    ensures err { OnErr result (take (length into.old.items) into.new.items ≡ into.old.items) }
 {
     let front = format!(in alloc; "k {index} ")?;
     into.extend_from_slice(front.as_bytes())?;
@@ -37,7 +39,8 @@ fn write_line(
 }
 
 fn write_constant(alloc: Global, constant: &Const, into: &mut Vec<u8>) -> Result<(), Memory>
-    ensures { OnOk result (into.new.items ≡ into.old.items ++ constant_text constant.now) }
+    ensures ok { OnOk result (into.new.items ≡ into.old.items ++ constant_text constant.now) }
+    ensures err { OnErr result (take (length into.old.items) into.new.items ≡ into.old.items) }
 {
     match constant {
         Const::Nil => into.extend_from_slice(b"nil")?,
@@ -61,7 +64,8 @@ fn write_constant(alloc: Global, constant: &Const, into: &mut Vec<u8>) -> Result
 }
 
 fn write_string(text: &[u8], into: &mut Vec<u8>) -> Result<(), Memory>
-    ensures { OnOk result (into.new.items ≡ into.old.items ++ codes "str " ++ 34 ∷ flat_map escaped text.now ++ 34 ∷ []) }
+    ensures ok { OnOk result (into.new.items ≡ into.old.items ++ codes "str " ++ 34 ∷ flat_map escaped text.now ++ 34 ∷ []) }
+    ensures err { OnErr result (take (length into.old.items) into.new.items ≡ into.old.items) }
 {
     into.extend_from_slice(b"str \"")?;
     for b in text {
@@ -72,7 +76,8 @@ fn write_string(text: &[u8], into: &mut Vec<u8>) -> Result<(), Memory>
 }
 
 fn write_escaped(b: u8, into: &mut Vec<u8>) -> Result<(), Memory>
-    ensures { OnOk result (into.new.items ≡ into.old.items ++ escaped b) }
+    ensures ok { OnOk result (into.new.items ≡ into.old.items ++ escaped b) }
+    ensures err { OnErr result (take (length into.old.items) into.new.items ≡ into.old.items) }
 {
     if is_quoted(b) {
         into.extend_from_slice(&[b'\\', b])?;

@@ -1,5 +1,5 @@
 //! The listing of a function with all inside it.
-ghost use Rattle.std.specs.Prelude.{◌≡◌, ◌++◌, map, string_bytes, IfOk, OnOk, OnErr};
+ghost use Rattle.std.specs.Prelude.{◌≡◌, ◌++◌, length, map, take, string_bytes, IfOk, OnOk, OnErr};
 ghost use Rattle.luf_list.specs.Listing.{head_front, head_line, inner_listings, inner_path, listing, listing_at, own_lines, upvalue_line, upvalue_lines};
 ghost use Rattle.luf_ops.specs.Instruction.{bit};
 ghost use Rattle.luf_proto.specs.FunctionOf.{function_of, functions_of};
@@ -16,15 +16,18 @@ pub fn list(alloc: Global, p: &Proto, into: &mut Vec<u8>) -> Result<(), Memory>
     ensures ok { OnOk result (into.new.items ≡ into.old.items ++ listing (function_of p.now)) }
     ensures err { OnErr result (into.new.items ≡ into.old.items) }
 {
-    let mut text = Vec::new(alloc);
-    write_function(alloc, "0", p, &mut text)?;
-    into.append(&mut text)?;
+    let len = into.len();
+    if let Err(e) = write_function(alloc, "0", p, into) {
+        into.truncate(len);
+        return Err(e);
+    }
     Ok(())
 }
 
 #[cycle(functions)]
 fn write_function(alloc: Global, path: &str, p: &Proto, into: &mut Vec<u8>) -> Result<(), Memory>
-    ensures { OnOk result (into.new.items ≡ into.old.items ++ listing_at path.now (function_of p.now)) }
+    ensures ok { OnOk result (into.new.items ≡ into.old.items ++ listing_at path.now (function_of p.now)) }
+    ensures err { OnErr result (take (length into.old.items) into.new.items ≡ into.old.items) }
 {
     write_own(alloc, path, p, into)?;
     write_inner(alloc, path, p.subs.as_slice(), into)
@@ -32,7 +35,8 @@ fn write_function(alloc: Global, path: &str, p: &Proto, into: &mut Vec<u8>) -> R
 
 #[cycle(functions)]
 fn write_inner(alloc: Global, path: &str, subs: &[Proto], into: &mut Vec<u8>) -> Result<(), Memory>
-    ensures { OnOk result (into.new.items ≡ into.old.items ++ inner_listings path.now 0 (functions_of (map function_of subs.now))) }
+    ensures ok { OnOk result (into.new.items ≡ into.old.items ++ inner_listings path.now 0 (functions_of (map function_of subs.now))) }
+    ensures err { OnErr result (take (length into.old.items) into.new.items ≡ into.old.items) }
 {
     for (index, sub) in subs.iter().enumerate() {
         let inner = inner_path(alloc, path, index)?;
@@ -49,7 +53,8 @@ fn inner_path(alloc: Global, path: &str, index: usize) -> Result<String, Memory>
 
 /// Appends what a function has itself.
 fn write_own(alloc: Global, path: &str, p: &Proto, into: &mut Vec<u8>) -> Result<(), Memory>
-    ensures { OnOk result (into.new.items ≡ into.old.items ++ own_lines path.now (out-Proto p.now).numparams (out-Proto p.now).is_vararg (out-Proto p.now).maxstack (out-Proto p.now).code (out-Proto p.now).consts (out-Proto p.now).upvals (out-Proto p.now).line_from (out-Proto p.now).line_to) }
+    ensures ok { OnOk result (into.new.items ≡ into.old.items ++ own_lines path.now (out-Proto p.now).numparams (out-Proto p.now).is_vararg (out-Proto p.now).maxstack (out-Proto p.now).code (out-Proto p.now).consts (out-Proto p.now).upvals (out-Proto p.now).line_from (out-Proto p.now).line_to) }
+    ensures err { OnErr result (take (length into.old.items) into.new.items ≡ into.old.items) }
 {
     write_head(alloc, path, p, into)?;
     write_code(alloc, p.code.as_slice(), into)?;
@@ -58,7 +63,8 @@ fn write_own(alloc: Global, path: &str, p: &Proto, into: &mut Vec<u8>) -> Result
 }
 
 fn write_head(alloc: Global, path: &str, p: &Proto, into: &mut Vec<u8>) -> Result<(), Memory>
-    ensures { OnOk result (into.new.items ≡ into.old.items ++ head_line (head_front path.now (out-Proto p.now).numparams (bit (out-Proto p.now).is_vararg)) (out-Proto p.now).maxstack (out-Proto p.now).line_from (out-Proto p.now).line_to) }
+    ensures ok { OnOk result (into.new.items ≡ into.old.items ++ head_line (head_front path.now (out-Proto p.now).numparams (bit (out-Proto p.now).is_vararg)) (out-Proto p.now).maxstack (out-Proto p.now).line_from (out-Proto p.now).line_to) }
+    ensures err { OnErr result (take (length into.old.items) into.new.items ≡ into.old.items) }
 {
     let vararg = u8::from(p.is_vararg);
     let front = head_front(alloc, path, p.numparams, vararg)?;
@@ -80,7 +86,8 @@ fn head_line(alloc: Global, front: &str, stack: u8, from: u32, to: u32) -> Resul
 }
 
 fn write_upvals(alloc: Global, upvals: &[Upval], into: &mut Vec<u8>) -> Result<(), Memory>
-    ensures { OnOk result (into.new.items ≡ into.old.items ++ upvalue_lines 0 upvals.now) }
+    ensures ok { OnOk result (into.new.items ≡ into.old.items ++ upvalue_lines 0 upvals.now) }
+    ensures err { OnErr result (take (length into.old.items) into.new.items ≡ into.old.items) }
 {
     for (index, upval) in upvals.iter().enumerate() {
         let instack = u8::from(upval.instack);

@@ -2,9 +2,12 @@
 ghost use Rattle.std.specs.Prelude.{◌≡◌, ◌≤◌, ◌↔◌, ℕ, List, length, Ok, Err};
 ghost use Rattle.luf_proto.specs.Function.{Function};
 ghost use Rattle.luf_proto.specs.Chunk.{Fits, chunk_bytes};
+ghost use Rattle.luf_undump.specs.Answers.{HasCause};
 ghost use Rattle.luf_undump.specs.Grammar.{IsChunkOf};
 ghost use Rattle.luf_undump.specs.Readable.{IsReadable};
 ghost use Rattle.luf_undump.specs.Reading.{Wrong, chunk_at, most_levels};
+ghost use Rattle.luf_undump.specs.declared.error.ChunkWhat.{ChunkWhat};
+ghost use Rattle.luf_undump.specs.declared.error.UndumpErr.TheVariants.{Bad};
 
 /// Bytes are read as a function exactly where they are its chunk.
 pub fn read_is_chunk()
@@ -20,6 +23,16 @@ pub fn one_function()
 pub fn written_is_read()
     ensures chunk { (f : Function) → Fits f → IsReadable f most_levels → IsChunkOf (chunk_bytes f) f }
     ensures read { (f : Function) → Fits f → IsReadable f most_levels → chunk_at (chunk_bytes f) ≡ Ok f }
+{}
+
+/// The chunk of a function has no field that is wrong.
+pub fn chunk_not_refused()
+    ensures { (bytes : List ℕ) (f : Function) (at : ℕ) (what : ChunkWhat) → IsChunkOf bytes f → HasCause bytes (Bad at what) → ⊥ }
+{}
+
+/// Bytes have one first wrong field at most, which is wrong in one way.
+pub fn one_cause()
+    ensures { (bytes : List ℕ) (at other : ℕ) (what kind : ChunkWhat) → HasCause bytes (Bad at what) → HasCause bytes (Bad other kind) → (at ≡ other) × (what ≡ kind) }
 {}
 
 /// A field that is wrong begins among the bytes, or at their end.

@@ -15,4 +15,6 @@ mod upvalue;
 
 pub use chunk::read_chunk;
 pub use error::{ChunkWhat, UndumpErr};
-pub use laws::{one_function, read_is_chunk, refused_within, written_is_read};
+pub use laws::{
+    chunk_not_refused, one_cause, one_function, read_is_chunk, refused_within, written_is_read,
+};

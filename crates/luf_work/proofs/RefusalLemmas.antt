@@ -22,7 +22,8 @@ use Rattle.luf_work.specs.Refusals.{start_of, IsLexicalAt, HasNoTreeAt, HasScope
 use Rattle.luf_work.specs.Source.{IsSource, IsAccepted, scope_fault_of}
 use Rattle.luf_work.specs.Text.{IsJoined, nothing, alone, apart, spaced, hash_text}
 use Rattle.luf_work.specs.declared.refusal.Refusal.{Refusal}
-use Rattle.luf_work.specs.declared.refusal.Refusal.TheVariants.{TooLarge, Lexical, Syntax, TooDeep, Scope, ResultTooLarge, Memory}
+use Rattle.luf_work.specs.declared.refusal.Refusal.TheVariants.{TooLarge, Lexical, Syntax, TooDeep, Scope, Chunk as BadChunk, ResultTooLarge, Memory}
+use Rattle.luf_work.proofs.WantOfMemory.{memory_or_other}
 
 -- where a token starts, by its span
 pub start_is : (source : List ℕ) (pieces : List Piece) (token : ℕ) (o : Option Span) → o ≡ slice_get (spans_of pieces) token → unwrap_or (option_map (λ s. s.from) o) (length source) ≡ start_of source pieces token
@@ -87,6 +88,7 @@ source_not_refused source (TooDeep place) a cause = no_tree_no_source source a.p
 source_not_refused source (Scope place what) a cause =
     let h = cause.1 in
     let none : None ≡ Some (record { token = h.token; what = what }) = sym a.scopes ∙ one_scope_fault source a.pieces h.pieces a.chunk h.chunk a.is h.is ∙ h.fault in absurd cc
+source_not_refused source (BadChunk at what) a cause = cause
 source_not_refused source ResultTooLarge a cause = cause
 source_not_refused source Memory a cause = cause
 
@@ -112,6 +114,7 @@ large_only source (Lexical q v) h g = absurd (omega (arith, h, g.0))
 large_only source (Syntax q) h g = absurd (omega (arith, h, g.0))
 large_only source (TooDeep q) h g = absurd (omega (arith, h, g.0))
 large_only source (Scope q v) h g = absurd (omega (arith, h, g.0))
+large_only source (BadChunk at v) h g = absurd g
 large_only source ResultTooLarge h g = absurd g
 large_only source Memory h g = absurd g
 
@@ -122,6 +125,7 @@ lexical_only source p w (Lexical q v) within h g = inl (one_lexical source p w q
 lexical_only source p w (Syntax q) within h g = absurd (fault_no_tree source p w q h g.1)
 lexical_only source p w (TooDeep q) within h g = absurd (fault_no_tree source p w q h g.1)
 lexical_only source p w (Scope q v) within h g = absurd (fault_no_source source g.1.pieces g.1.chunk p w h g.1.is)
+lexical_only source p w (BadChunk at v) within h g = absurd g
 lexical_only source p w ResultTooLarge within h g = absurd g
 lexical_only source p w Memory within h g = absurd g
 
@@ -132,6 +136,7 @@ no_tree_only source p refusal (Lexical q v) tells within h g = absurd (fault_no_
 no_tree_only source p refusal (Syntax q) tells within h g = inr (tells, tt)
 no_tree_only source p refusal (TooDeep q) tells within h g = inr (tells, tt)
 no_tree_only source p refusal (Scope q v) tells within h g = absurd (no_tree_no_source source g.1.pieces g.1.chunk p h g.1.is)
+no_tree_only source p refusal (BadChunk at v) tells within h g = absurd g
 no_tree_only source p refusal ResultTooLarge tells within h g = absurd g
 no_tree_only source p refusal Memory tells within h g = absurd g
 
@@ -142,6 +147,7 @@ scope_only source p w (Lexical q v) within h g = absurd (fault_no_source source 
 scope_only source p w (Syntax q) within h g = absurd (no_tree_no_source source h.pieces h.chunk q g.1 h.is)
 scope_only source p w (TooDeep q) within h g = absurd (no_tree_no_source source h.pieces h.chunk q g.1 h.is)
 scope_only source p w (Scope q v) within h g = inl (same_scope source p w q v h g.1)
+scope_only source p w (BadChunk at v) within h g = absurd g
 scope_only source p w ResultTooLarge within h g = absurd g
 scope_only source p w Memory within h g = absurd g
 
@@ -152,6 +158,7 @@ one_source_refusal source (Lexical p w) other h g = lexical_only source p w othe
 one_source_refusal source (Syntax p) other h g = no_tree_only source p (Syntax p) other tt h.0 h.1 g
 one_source_refusal source (TooDeep p) other h g = no_tree_only source p (TooDeep p) other tt h.0 h.1 g
 one_source_refusal source (Scope p w) other h g = scope_only source p w other h.0 h.1 g
+one_source_refusal source (BadChunk at w) other h g = absurd h
 one_source_refusal source ResultTooLarge other h g = absurd h
 one_source_refusal source Memory other h g = absurd h
 
@@ -165,6 +172,7 @@ minify_cause source (Lexical p w) h = h
 minify_cause source (Syntax p) h = h
 minify_cause source (TooDeep p) h = h
 minify_cause source (Scope p w) h = h
+minify_cause source (BadChunk at w) h = h
 minify_cause source Memory h = h
 
 -- a text that is too large
@@ -179,6 +187,7 @@ minify_causes source (Lexical p w) h = inl h
 minify_causes source (Syntax p) h = inl h
 minify_causes source (TooDeep p) h = inl h
 minify_causes source (Scope p w) h = inl h
+minify_causes source (BadChunk at w) h = inl h
 minify_causes source Memory h = inl h
 
 -- a source that `minify` accepts has none
@@ -197,15 +206,6 @@ one_refusal source refusal other h g =
     ]
 
 -- ---- what is answered
-
-memory_or_other : (refusal : Refusal) → (refusal ≡ Memory) ⊎ (refusal ≢ Memory)
-memory_or_other Memory = inl refl
-memory_or_other TooLarge = inr (λ e. cc)
-memory_or_other (Lexical p w) = inr (λ e. cc)
-memory_or_other (Syntax p) = inr (λ e. cc)
-memory_or_other (TooDeep p) = inr (λ e. cc)
-memory_or_other (Scope p w) = inr (λ e. cc)
-memory_or_other ResultTooLarge = inr (λ e. cc)
 
 -- what is no text of an accepted source is want of memory
 pub answered : (source : List ℕ) (r : Result (Unit {0}) Refusal) → IsErrAnd r (λ e. e ≢ Memory → IsMinifyRefusal source e) → IsMinifyAccepted source → (r ≡ Ok tt) ⊎ (r ≡ Err Memory)

@@ -1,5 +1,6 @@
 pub mod inner
 pub mod Limits
+pub mod List
 pub mod Minify
 pub mod Refusals
 pub mod Source

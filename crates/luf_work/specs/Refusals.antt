@@ -1,4 +1,4 @@
--- Why a source is refused by every job, in the order in which the causes are looked for. Our own rules.
+-- Why a source is refused by every job that reads it as one, in the order in which the causes are looked for. Our own rules.
 use Rattle.std.specs.Prelude.{◌≡◌, ℕ, ◌<◌, ◌≤◌, ◌⊎◌, Some, List, length, map, slice_index_or, Result, Err}
 use Rattle.luf_text.specs.Place.{place_in}
 use Rattle.luf_text.specs.declared.place.Place.{Place}
@@ -12,7 +12,7 @@ use Rattle.luf_tree.specs.declared.tree.Chunk.{Chunk}
 use Rattle.luf_work.specs.Limits.{source_limit}
 use Rattle.luf_work.specs.Source.{IsSource, scope_fault_of}
 use Rattle.luf_work.specs.declared.refusal.Refusal.{Refusal}
-use Rattle.luf_work.specs.declared.refusal.Refusal.TheVariants.{TooLarge, Lexical, Syntax, TooDeep, Scope, ResultTooLarge, Memory}
+use Rattle.luf_work.specs.declared.refusal.Refusal.TheVariants.{TooLarge, Lexical, Syntax, TooDeep, Scope, Chunk as BadChunk, ResultTooLarge, Memory}
 
 -- the lexical fault of a source, by its line and column
 pub record IsLexicalAt (source : List ℕ) (place : Place) (what : LexWhat) : Type 0 where
@@ -43,14 +43,15 @@ pub record HasScopeFaultAt (source : List ℕ) (place : Place) (what : ScopeWhat
   pub fault : scope_fault_of source pieces chunk ≡ Some (record { token = token; what = what })
   pub place_is : place ≡ place_in source (start_of source pieces token)
 
--- The cause of a refusal by every job. The limit of the source is looked at first. A text that is too large is the
--- cause of single jobs, and want of memory has no cause in the source.
+-- The cause of a refusal by every job that reads a source. The limit of the source is looked at first. A chunk that is
+-- wrong and a text that is too large are the causes of single jobs, and want of memory has no cause in the source.
 abbrev pub IsSourceRefusal : List ℕ → Refusal → Type 0
 IsSourceRefusal source TooLarge = source_limit < length source
 IsSourceRefusal source (Lexical place what) = length source ≤ source_limit × IsLexicalAt source place what
 IsSourceRefusal source (Syntax place) = length source ≤ source_limit × HasNoTreeAt source place
 IsSourceRefusal source (TooDeep place) = length source ≤ source_limit × HasNoTreeAt source place
 IsSourceRefusal source (Scope place what) = length source ≤ source_limit × HasScopeFaultAt source place what
+IsSourceRefusal source (BadChunk at what) = ⊥
 IsSourceRefusal source ResultTooLarge = ⊥
 IsSourceRefusal source Memory = ⊥
 

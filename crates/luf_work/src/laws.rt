@@ -1,5 +1,6 @@
 // Laws of the minified text and of the causes of a refusal: a source has one of the two, and one only.
 ghost use Rattle.std.specs.Prelude.{◌≡◌, ℕ, List};
+ghost use Rattle.luf_work.specs.List.{IsListing, IsListAccepted, IsListRefusal};
 ghost use Rattle.luf_work.specs.Minify.{IsMinified, IsMinifyAccepted, IsMinifyRefusal};
 ghost use Rattle.luf_work.specs.Refusals.{IsSourceRefusal, IsSameRefusal};
 ghost use Rattle.luf_work.specs.Source.{IsAccepted};
@@ -30,4 +31,19 @@ pub fn accepted_not_refused()
 /// either word and at more than one place.
 pub fn one_refusal()
     ensures { (source : List ℕ) (refusal other : Refusal) → IsMinifyRefusal source refusal → IsMinifyRefusal source other → IsSameRefusal refusal other }
+{}
+
+/// An input has at most one listing.
+pub fn one_listing()
+    ensures { (source text other : List ℕ) → IsListing source text → IsListing source other → text ≡ other }
+{}
+
+/// An input that `list` accepts has no cause of a refusal by it.
+pub fn list_accepted_not_refused()
+    ensures { (source : List ℕ) (refusal : Refusal) → IsListAccepted source → IsListRefusal source refusal → ⊥ }
+{}
+
+/// An input has at most one cause of a refusal by `list`.
+pub fn one_list_refusal()
+    ensures { (source : List ℕ) (refusal other : Refusal) → IsListRefusal source refusal → IsListRefusal source other → refusal ≡ other }
 {}

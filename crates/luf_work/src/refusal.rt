@@ -3,6 +3,7 @@ use luf_lex::LexWhat;
 use luf_memory::Memory;
 use luf_scope::ScopeWhat;
 use luf_text::Place;
+use luf_undump::ChunkWhat;
 
 /// Why a job gives no text.
 #[derive(Clone, Copy, Debug, PartialEq, Eq)]
@@ -18,6 +19,8 @@ pub enum Refusal {
     TooDeep(Place),
     /// A name or a jump is refused: where the token of the first such fault is, and why.
     Scope(Place, ScopeWhat),
+    /// The bytes are no chunk: the first byte of the first field that is wrong, and how it is wrong.
+    Chunk(u32, ChunkWhat),
     /// The text would have more than 4,194,304 bytes.
     ResultTooLarge,
     /// No memory was found.

@@ -1,16 +1,9 @@
 -- The place is counted from the front.
-use Rattle.std.proofs.Common.{◌≡◌, Result, Ok, Err, arith}
-use Rattle.luf_proto.specs.Function.{Function}
-use Rattle.luf_undump.specs.Reading.{Wrong}
+use Rattle.std.proofs.Common.{arith}
 use Rattle.luf_undump.proofs.Complete.{chunk_complete}
+use Rattle.luf_undump.proofs.OneAnswer.{same_value, never_both}
 use Rattle.luf_undump.proofs.Sound.{chunk_sound, refused_within}
 use Rattle.luf_undump.proofs.chunk.read_chunk.Goals as goal
-
-same_value : (f g : Function) (r : Result Function Wrong) → r ≡ Ok f → r ≡ Ok g → f ≡ g
-same_value f g r is also = cc
-
-never_both : (f : Function) (e : Wrong) (r : Result Function Wrong) → r ≡ Ok f → r ≡ Err e → ⊥
-never_both f e r is also = cc
 
 pub returns-in-Ok-clause-ok : goal.returns-in-Ok-clause-ok
 returns-in-Ok-clause-ok c = chunk_sound _ _ c.in-Ok.ensures
