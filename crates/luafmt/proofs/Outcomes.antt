@@ -53,13 +53,19 @@ done_of words contents out text command m written is = subst (λ (t : List ℕ).
 -- each command refuses a source that is too large
 pub too_large : (command : Command) (contents : List ℕ) → source_limit < length contents → Refuses command contents TooLarge
 too_large command.Minify contents large = large
+too_large command.Check contents large = large
 too_large command.List contents large = large
 
 -- the words mean one command at most
 pub one_command : (words : List (List ℕ)) (a b : Command) → Mean words a → Mean words b → a ≡ b
 one_command words command.Minify command.Minify m n = refl
+one_command words command.Minify command.Check m n = absurd cc
 one_command words command.Minify command.List m n = absurd cc
+one_command words command.Check command.Minify m n = absurd cc
+one_command words command.Check command.Check m n = refl
+one_command words command.Check command.List m n = absurd cc
 one_command words command.List command.Minify m n = absurd cc
+one_command words command.List command.Check m n = absurd cc
 one_command words command.List command.List m n = refl
 
 -- every input has contents: those that it tells, or any

@@ -13,7 +13,7 @@ use crate::line::refusal_line;
 use crate::status::Status;
 use luf_io::{ReadErr, Source, read_all};
 use luf_memory::Memory;
-use luf_work::{Refusal, SOURCE_LIMIT, list_bytes, minify_bytes};
+use luf_work::{Refusal, SOURCE_LIMIT, check_bytes, list_bytes, minify_bytes};
 use std::alloc::Global;
 use std::borrow::CowStr;
 use std::marker::Model;
@@ -116,6 +116,7 @@ fn job(
 {
     match command {
         Command::Minify => minify_bytes(alloc, source, into),
+        Command::Check => check_bytes(alloc, source),
         Command::List => list_bytes(alloc, source, into),
     }
 }

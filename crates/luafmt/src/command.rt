@@ -8,6 +8,8 @@ ghost use Rattle.luafmt.specs.declared.command.Command.{Command as Meant};
 pub enum Command {
     /// Writes the minified text of a source.
     Minify,
+    /// Says whether a source is accepted.
+    Check,
     /// Writes the listing of a chunk.
     List,
 }
@@ -27,6 +29,7 @@ fn named(word: &[u8]) -> Option<Command>
 {
     match word {
         b"minify" => Some(Command::Minify),
+        b"check" => Some(Command::Check),
         b"list" => Some(Command::List),
         _ => None,
     }

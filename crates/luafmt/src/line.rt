@@ -5,6 +5,7 @@ ghost use Rattle.luafmt.specs.Line.{at_byte, chunk_word, line_of, placed, word_o
 
 use luf_lex::LexWhat;
 use luf_memory::Memory;
+use luf_scope::ScopeWhat;
 use luf_text::Place;
 use luf_undump::ChunkWhat;
 use luf_work::Refusal;
@@ -23,6 +24,9 @@ pub(crate) fn refusal_line(alloc: Global, refusal: Refusal) -> Result<CowStr<'st
         }
         Refusal::Syntax(place) => Ok(CowStr::Owned(placed_line(alloc, place, "Syntax")?)),
         Refusal::TooDeep(place) => Ok(CowStr::Owned(placed_line(alloc, place, "TooDeep")?)),
+        Refusal::Scope(place, what) => {
+            Ok(CowStr::Owned(placed_line(alloc, place, scope_word(what))?))
+        }
         Refusal::Chunk(at, what) => Ok(CowStr::Owned(byte_line(alloc, at, chunk_word(what))?)),
         Refusal::ResultTooLarge => Ok(CowStr::Borrowed("-: ResultTooLarge\n")),
         Refusal::Memory => Err(Memory),
@@ -64,5 +68,20 @@ fn chunk_word(what: ChunkWhat) -> &'static str
         ChunkWhat::BadTag => "BadTag",
         ChunkWhat::Nested => "Nested",
         ChunkWhat::Trailing => "Trailing",
+    }
+}
+
+fn scope_word(what: ScopeWhat) -> &'static str
+    ensures { result.now ≡ scope_word what }
+{
+    match what {
+        ScopeWhat::UnknownAttribute => "UnknownAttribute",
+        ScopeWhat::TwoClose => "TwoClose",
+        ScopeWhat::ConstAssign => "ConstAssign",
+        ScopeWhat::VarargOutside => "VarargOutside",
+        ScopeWhat::LabelTwice => "LabelTwice",
+        ScopeWhat::NoLabel => "NoLabel",
+        ScopeWhat::JumpIntoScope => "JumpIntoScope",
+        ScopeWhat::BreakOutside => "BreakOutside",
     }
 }

@@ -1,5 +1,5 @@
-//! A formatter and renaming minifier for Lua 5.4. So far it has two commands, `minify` and
-//! `list`, which read a source or a chunk from standard input and write to standard output.
+//! A formatter and renaming minifier for Lua 5.4. So far it has three commands, `minify`,
+//! `check` and `list`, which read a source or a chunk from standard input and write to standard output.
 #![tactic(auto)]
 
 mod answer;

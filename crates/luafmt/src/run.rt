@@ -13,8 +13,8 @@ use crate::status::Status;
 use luf_io::{Files, Sink, Source, WriteErr, write_all};
 use std::alloc::Global;
 
-/// Runs the command that the words after the program's name are: `minify` or `list`, alone. It writes the
-/// minified text of the input, or its listing, to `out`, or the line of a refusal to `errs`. Nothing is
+/// Runs the command that the words after the program's name are: `minify`, `check` or `list`, alone. It writes
+/// the minified text of the input, nothing, or its listing to `out`, or the line of a refusal to `errs`. Nothing is
 /// written before the whole text is there. No file is touched.
 ///
 /// A fault of `input` gives `ReadFault`, one of `out` or `errs` gives `WriteFault`, and want of

@@ -6,7 +6,7 @@ use Rattle.luf_undump.specs.declared.error.ChunkWhat.{ChunkWhat}
 use Rattle.luf_undump.proofs.OneAnswer.{chunk_not_refused, one_cause, one_function}
 use Rattle.luf_work.specs.List.{IsListing, IsListAccepted, IsListRefusal}
 use Rattle.luf_work.specs.declared.refusal.Refusal.{Refusal}
-use Rattle.luf_work.specs.declared.refusal.Refusal.TheVariants.{TooLarge, Lexical, Syntax, TooDeep, Chunk, ResultTooLarge, Memory}
+use Rattle.luf_work.specs.declared.refusal.Refusal.TheVariants.{TooLarge, Lexical, Syntax, TooDeep, Scope, Chunk, ResultTooLarge, Memory}
 use Rattle.luf_work.proofs.WantOfMemory.{memory_or_other}
 
 pub one_listing : (source text other : List ℕ) → IsListing source text → IsListing source other → text ≡ other
@@ -18,6 +18,7 @@ list_accepted_not_refused source (Chunk at what) a h = chunk_not_refused source 
 list_accepted_not_refused source (Lexical p w) a h = h
 list_accepted_not_refused source (Syntax p) a h = h
 list_accepted_not_refused source (TooDeep p) a h = h
+list_accepted_not_refused source (Scope p w) a h = h
 list_accepted_not_refused source ResultTooLarge a h = h
 list_accepted_not_refused source Memory a h = h
 
@@ -25,6 +26,7 @@ pub one_list_refusal : (source : List ℕ) (refusal other : Refusal) → IsListR
 one_list_refusal source (Lexical p w) other h g = absurd h
 one_list_refusal source (Syntax p) other h g = absurd h
 one_list_refusal source (TooDeep p) other h g = absurd h
+one_list_refusal source (Scope p w) other h g = absurd h
 one_list_refusal source ResultTooLarge other h g = absurd h
 one_list_refusal source Memory other h g = absurd h
 one_list_refusal source TooLarge TooLarge h g = refl
@@ -32,6 +34,7 @@ one_list_refusal source TooLarge (Chunk at what) h g = absurd (omega (arith, h, 
 one_list_refusal source TooLarge (Lexical p w) h g = absurd g
 one_list_refusal source TooLarge (Syntax p) h g = absurd g
 one_list_refusal source TooLarge (TooDeep p) h g = absurd g
+one_list_refusal source TooLarge (Scope p w) h g = absurd g
 one_list_refusal source TooLarge ResultTooLarge h g = absurd g
 one_list_refusal source TooLarge Memory h g = absurd g
 one_list_refusal source (Chunk at what) TooLarge h g = absurd (omega (arith, g, h.0))
@@ -41,6 +44,7 @@ one_list_refusal source (Chunk at what) (Chunk other kind) h g =
 one_list_refusal source (Chunk at what) (Lexical p w) h g = absurd g
 one_list_refusal source (Chunk at what) (Syntax p) h g = absurd g
 one_list_refusal source (Chunk at what) (TooDeep p) h g = absurd g
+one_list_refusal source (Chunk at what) (Scope p w) h g = absurd g
 one_list_refusal source (Chunk at what) ResultTooLarge h g = absurd g
 one_list_refusal source (Chunk at what) Memory h g = absurd g
 
