@@ -1,5 +1,5 @@
 -- When a source has a minified text, and which, and when it has a cause of a refusal, and which.
-use Rattle.std.proofs.Common.{◌≡◌, ◌≢◌, ◌⊎◌, inl, inr, ℕ, ◌≤◌, Option, Some, None, List, Ok, Err, ◌++◌, codes, length, map, refl, sym, ap, ◌∙◌, subst, arith}
+use Rattle.std.proofs.Common.{◌≡◌, ◌≢◌, ◌⊎◌, inl, inr, ℕ, ◌<◌, ◌≤◌, Option, Some, None, List, Ok, Err, ◌++◌, codes, length, map, refl, sym, ap, ◌∙◌, subst, arith}
 use Rattle.std.specs.Prelude.{Result, IfErr, IsErrAnd, slice_get}
 use Rattle.std.specs.Option.{option_map, unwrap_or}
 use Rattle.std.proofs.lemmas.Option.{unwrap_or-slice_get, slice_get-map}
@@ -79,6 +79,9 @@ one_scope_fault source pieces others chunk other is is' =
     ap (λ (ps : List Piece). scope_fault_of source ps chunk) same
     ∙ ap (scope_fault_of source others) (one_tree (toks_of others) chunk other (subst (λ (ps : List Piece). IsChunk (toks_of ps) chunk) same is.tree) is'.tree)
 
+nothing_found : {A : Type 0} {o : Option A} {x : A} → o ≡ None → o ≡ Some x → ⊥
+nothing_found {A} {o} {x} none some = let same : None ≡ Some x = sym none ∙ some in cc
+
 -- an accepted source has no cause
 pub source_not_refused : (source : List ℕ) (refusal : Refusal) → IsAccepted source → IsSourceRefusal source refusal → ⊥
 source_not_refused source TooLarge a large = let within = a.within in omega (arith, large, within)
@@ -87,7 +90,7 @@ source_not_refused source (Syntax place) a cause = no_tree_no_source source a.pi
 source_not_refused source (TooDeep place) a cause = no_tree_no_source source a.pieces a.chunk place cause.1 a.is
 source_not_refused source (Scope place what) a cause =
     let h = cause.1 in
-    let none : None ≡ Some (record { token = h.token; what = what }) = sym a.scopes ∙ one_scope_fault source a.pieces h.pieces a.chunk h.chunk a.is h.is ∙ h.fault in absurd cc
+    nothing_found a.scopes (one_scope_fault source a.pieces h.pieces a.chunk h.chunk a.is h.is ∙ h.fault)
 source_not_refused source (BadChunk at what) a cause = cause
 source_not_refused source ResultTooLarge a cause = cause
 source_not_refused source Memory a cause = cause
@@ -227,6 +230,10 @@ source_told source (Ok u) cause refusal h = absurd cause
 source_told source (Err e) cause refusal h = elim (memory_or_other e) [ inl memory ↦ inr (ap Err memory) | inr other ↦ inl (e, one_source_refusal source refusal e h (cause other), refl) ]
 
 -- an error that is passed on is the same
+pub passed_source : (source : List ℕ) {e : Refusal} (r : Result (Unit {0}) Refusal) → IsErrAnd r (λ x. x ≡ e) → (e ≢ Memory → IsSourceRefusal source e) → IsErrAnd r (λ x. x ≢ Memory → IsSourceRefusal source x)
+passed_source source (Ok u) is h = absurd is
+passed_source source (Err x) is h = λ other. subst (IsSourceRefusal source) (sym is) (h (λ e. other (is ∙ e)))
+
 pub passed : (source : List ℕ) {e : Refusal} (r : Result (Unit {0}) Refusal) → IsErrAnd r (λ x. x ≡ e) → (e ≢ Memory → IsSourceRefusal source e) → IsErrAnd r (λ x. x ≢ Memory → IsMinifyRefusal source x)
 passed source (Ok u) is h = absurd is
 passed source (Err x) is h = λ other. minify_cause source x (subst (IsSourceRefusal source) (sym is) (h (λ e. other (is ∙ e))))
