@@ -8,7 +8,7 @@ use Rattle.luf_work.specs.Limits.{source_limit}
 use Rattle.luf_work.specs.declared.refusal.Refusal.{Refusal}
 use Rattle.luf_work.specs.declared.refusal.Refusal.TheVariants.{TooLarge, Memory}
 use Rattle.luafmt.specs.Line.{line_of, refusal_line}
-use Rattle.luafmt.specs.Command.{Mean, AreNoCommand, Writes, Refuses}
+use Rattle.luafmt.specs.Command.{Mean, AreNoCommand, Accepts, Writes, Refuses}
 use Rattle.luafmt.specs.declared.command.Command.{Command}
 use Rattle.luafmt.specs.declared.command.Command.TheVariants as command
 use Rattle.luafmt.specs.Outcome.{Outcome, Gives, usage, refused, done, AreContents, IsOutcome, RanThrough}
@@ -90,3 +90,19 @@ too_large_outcome words left after pulled e w is word command m taken limit =
     let over : length pulled ≡ source_limit + 1 = subst (λ (r : ReadErr). PullsWithin {T = Unit {0}} (Err r) source_limit (length pulled)) word limit in
     let some = contents_pulled left pulled after taken (omega arith) in
     record { contents = some.0; told = some.1; gives = refused_of words some.0 w command TooLarge m (λ other. too_large command some.0 some.2) is }
+
+-- each command accepts only what is within the limit
+within_limit : (command : Command) (contents : List ℕ) → Accepts command contents → length contents ≤ source_limit
+within_limit command.Minify contents a = a.accepted.within
+within_limit command.Check contents a = a.within
+within_limit command.List contents a = a.within
+
+-- so none accepts what a read that was given up was told
+pub too_large_told : (left after : Option (List ℕ)) (pulled contents : List ℕ) (e : ReadErr) → left ≡ Some contents → e ≡ read.TooLarge → Taken left pulled after → PullsWithin {T = Unit {0}} (Err e) source_limit (length pulled) → (command : Command) → Accepts command contents → ⊥
+too_large_told left after pulled contents e told word taken limit command accepted =
+    let over : length pulled ≡ source_limit + 1 = subst (λ (r : ReadErr). PullsWithin {T = Unit {0}} (Err r) source_limit (length pulled)) word limit in
+    let some = contents_pulled left pulled after taken (omega arith) in
+    let within = within_limit command contents accepted in
+    let size : length contents ≡ length some.0 = ap length (some.1 contents told) in
+    let large = some.2 in
+    omega (arith, within, size, large)

@@ -1,7 +1,7 @@
 //! The line that tells a refusal.
 ghost use Rattle.std.specs.Prelude.{◌≡◌, string_bytes, Some, option_map, IfOk};
 ghost use Rattle.std.specs.Cow.{cow_str_bytes};
-ghost use Rattle.luafmt.specs.Line.{at_byte, chunk_word, line_of, placed, word_of, refusal_line as spec_refusal_line};
+ghost use Rattle.luafmt.specs.Line.{at_byte, chunk_word, line_of, placed, scope_word, word_of, refusal_line as spec_refusal_line};
 
 use luf_lex::LexWhat;
 use luf_memory::Memory;

@@ -17,5 +17,5 @@ returns-in-Ok-write-clause-part g c = λ cut.
     absurd (subst RanThrough cut (runs_through _ _ _ _ c.in-Ok.ensures.gives (ap (λ (w : Outcome). w.status) c.answer.view_is)))
 
 pub returns-in-Ok-write-clause-complete : goal.returns-in-Ok-write-clause-complete
-returns-in-Ok-write-clause-complete g c = λ contents told accepted m _ _ _.
-    inl (ap (λ (w : Outcome). w.status) c.answer.view_is ∙ c.in-Ok.ensures.accepted contents told accepted m)
+returns-in-Ok-write-clause-complete g c = λ contents command told accepted m _ _ _.
+    inl (ap (λ (w : Outcome). w.status) c.answer.view_is ∙ c.in-Ok.ensures.accepted contents command told accepted m)
