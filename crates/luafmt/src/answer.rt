@@ -103,12 +103,7 @@ fn answered(alloc: Global, command: Command, source: &[u8]) -> Result<Answer, Me
 }
 
 // Appends what a command writes of a source.
-fn job(
-    alloc: Global,
-    command: Command,
-    source: &[u8],
-    into: &mut Vec<u8>,
-) -> Result<(), Refusal>
+fn job(alloc: Global, command: Command, source: &[u8], into: &mut Vec<u8>) -> Result<(), Refusal>
     ensures ok { OnOk result ((text : List ℕ) × Writes command source.now text × (into.new.items ≡ into.old.items ++ text)
         × (command ≡ Command.Minify → SameTokens source.now text)) }
     ensures complete { Accepts command source.now → (result ≡ Ok tt) ⊎ (result ≡ Err Refusal.Memory) }

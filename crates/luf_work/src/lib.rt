@@ -11,7 +11,10 @@ mod source;
 mod text;
 
 pub use check::check_bytes;
-pub use laws::{accepted_not_refused, list_accepted_not_refused, one_list_refusal, one_listing, one_refusal, one_source_refusal, one_text, source_not_refused};
+pub use laws::{
+    accepted_not_refused, list_accepted_not_refused, one_list_refusal, one_listing, one_refusal,
+    one_source_refusal, one_text, source_not_refused,
+};
 pub use limits::{SOURCE_LIMIT, TEXT_LIMIT};
 pub use list::list_bytes;
 pub use minify::minify_bytes;

@@ -79,10 +79,7 @@ fn check_scopes(alloc: Global, src: &[u8], pieces: &Cut, chunk: &Chunk) -> Resul
     let jump = jump_fault(alloc, src, pieces, chunk)?;
     match first_of(name, jump) {
         None => Ok(()),
-        Some(bad) => Err(Refusal::Scope(
-            place_of_token(src, pieces, bad.token),
-            bad.what,
-        )),
+        Some(bad) => Err(Refusal::Scope(place_of_token(src, pieces, bad.token), bad.what)),
     }
 }
 
