@@ -1,0 +1,2 @@
+pub mod ResolvedExamples
+pub mod ResolvedLemmas
