@@ -20,20 +20,18 @@ use Rattle.luf_tree.specs.Syntax as syntax
 use Rattle.luf_tree.specs.TokenSyntax as tokens
 use Rattle.luf_tree.specs.TokenSyntax.{from_to}
 use Rattle.luf_tree.specs.SyntaxOf.{expressions_of, operations_of, suffixes_of, fields_of, statements_of, arms_of, optional_expression_of, optional_block_of, declared_of, first_of_path, rest_of_path, syntax_of_expr, syntax_of_block, syntax_of_stat, syntax_of_field, syntax_of_suffix, syntax_of_step, syntax_of_arm, syntax_of_args, syntax_of_body}
-use Rattle.luf_tree.specs.SyntaxOf.{syntax_of}
 use Rattle.luf_tree.specs.SyntaxMap.{ShapeMap}
-use Rattle.luf_tree.specs.declared.tree.Chunk.{Chunk}
 use Rattle.luf_bare.proofs.Ends.{between_none, between_one, place_before, exprs_end, field_end}
-use Rattle.luf_bare.specs.Bare.{Bare, words_of, before, bare_declared, bare_expression, bare_optional_expression, bare_expressions, bare_operations, bare_suffix, bare_suffixes, bare_arguments, bare_field, bare_fields, bare_statement, bare_statements, bare_arm, bare_arms, bare_block, bare_optional_block, bare_function_body}
+use Rattle.luf_bare.specs.Bare.{before, bare_declared, bare_expression, bare_optional_expression, bare_expressions, bare_operations, bare_suffix, bare_suffixes, bare_arguments, bare_field, bare_fields, bare_statement, bare_statements, bare_arm, bare_arms, bare_block, bare_optional_block, bare_function_body}
 use Rattle.luf_bare.specs.Dropped.{between, if_dropped, dropped_expression, dropped_for_step, dropped_expressions, dropped_operations, dropped_suffix, dropped_suffixes, dropped_arguments, dropped_field, dropped_fields, dropped_statement, dropped_statements, dropped_arm, dropped_arms, dropped_block, dropped_else, dropped_body}
 use Rattle.luf_tree.proofs.SyntaxEquations.{nil_syntax, true_syntax, false_syntax, number_syntax, string_syntax, vararg_syntax, name_syntax, paren_syntax, function_syntax, table_syntax, unary_syntax, chain_syntax, power_syntax, suffixed_syntax, empty_syntax, local_syntax, assign_syntax, call_syntax, do_syntax, while_syntax, repeat_syntax, if_syntax, for_syntax, for_in_syntax, function_stat_syntax, local_function_syntax, label_syntax, goto_syntax, break_syntax, return_syntax, item_syntax, named_syntax, keyed_syntax, dot_syntax, index_syntax, call_suffix_syntax, method_syntax, step_of_syntax, arm_of_syntax, args_of_syntax, block_of_syntax, body_of_syntax}
 use Rattle.luf_bare.specs.Lone.{is_lone}
 use Rattle.luf_bare.specs.Rank.{rank, ranks}
 use Rattle.luf_bare.proofs.EachWritten.{Each, all_none, all_more}
 use Rattle.luf_bare.proofs.RankedParts.{Step as Kept, Part, to, none, seq, kept, lost, kept_string, lost_one}
-use Rattle.luf_scope.specs.Occurrences.{Holder, span_of, is_void, are_void, declared_locals, loop_variables_of, parameters_of, loop_of, path_of, method_of, body_of, span_of_body, target_of, occurrences_in_expression, occurrences_in_optional_expression, occurrences_in_expressions, occurrences_in_targets, occurrences_in_operation, occurrences_in_operations, occurrences_in_suffix, occurrences_in_suffixes, occurrences_in_arguments, occurrences_in_field, occurrences_in_fields, occurrences_in_statement, occurrences_in_statements, occurrences_in_arm, occurrences_in_arms, occurrences_in_block, occurrences_in_repeated, occurrences_in_optional_block, occurrences_in_body}
+use Rattle.luf_scope.specs.Occurrences.{Holder, span_of, is_void, are_void, declared_locals, loop_variables_of, parameters_of, loop_of, path_of, method_of, body_of, span_of_body, target_of, occurrences_in_expression, occurrences_in_optional_expression, occurrences_in_expressions, occurrences_in_targets, occurrences_in_operations, occurrences_in_suffix, occurrences_in_suffixes, occurrences_in_arguments, occurrences_in_field, occurrences_in_fields, occurrences_in_statement, occurrences_in_statements, occurrences_in_arm, occurrences_in_arms, occurrences_in_block, occurrences_in_repeated, occurrences_in_optional_block, occurrences_in_body}
 use Rattle.luf_scope.specs.declared.occurrence.Occurrence.{Occurrence}
-use Rattle.luf_scope.specs.declared.occurrence.Occurrence.TheVariants.{Local, LocalFunction, Parameter, ImplicitSelf, LoopVariable, Reads, Assigns, Field as FieldName, Varargs, Function, Loop, Label, Goto, Break}
+use Rattle.luf_scope.specs.declared.occurrence.Occurrence.TheVariants.{Local, LocalFunction, Parameter, ImplicitSelf, LoopVariable, Field as FieldName, Loop}
 use Rattle.luf_resolved.proofs.Paired.{nothing, joined}
 use Rattle.luf_resolved.proofs.Ranking.{Solid, SolidOption, Opened, Ranked, ranked_option, ranked_holder, more, solid, solid_string, opened}
 
@@ -317,7 +315,6 @@ module _ (toks : List Tok) (all : List ℕ) {M : syntax.Shape} (f g : ShapeMap t
   semicolon_part (grammar.a_semicolon {i} {j} t) after = subst (λ z. Part all i j z after (Unit {0})) (sym (between_one i j after (omega (arith, t.next)))) (to (lost t none) (λ c. tt))
 
   mutual
-
     expr_part : {m i k : ℕ} {x : Expr} → IsExpr toks m i k x → (after : List ℕ) → ExpressionPart i k after (syntax_of_expr x)
     expr_part (grammar.operand_expr d) after = operand_part d after
     expr_part (grammar.chain_expr {i} {k} {first} {rest} _ _ d d_rest) after = subst (ExpressionPart i k after) (sym (chain_syntax i k first rest)) (to (seq (expr_part d _) (steps_part d_rest after)) (λ c. let e = c.0 in let r = c.1 in ((λ t. syntax.chain (spans (from_to i k) t) (e.0 t) (r.0 t)), joined e.1 r.1)))

@@ -1,5 +1,5 @@
 -- Two lists of which each member of the one is related to the member of the other at its place.
-use Rattle.std.proofs.Common.{◌≡◌, ℕ, ◌+◌, Bool, true, false, cond, ◌||◌, Option, Some, None, List, [], ◌∷◌, ◌++◌, map, ap, refl, ◌∙◌, if◌then◌else◌}
+use Rattle.std.proofs.Common.{◌≡◌, ℕ, ◌+◌, Bool, cond, ◌||◌, Option, Some, None, List, [], ◌∷◌, ◌++◌, map, refl, if◌then◌else◌}
 use Rattle.std.specs.List.{filter_map, cons_option, list_any, position_from}
 use Rattle.std.specs.Option.{option_or}
 use Rattle.luf_scope.specs.Local.{last_passing}

@@ -1,16 +1,15 @@
 -- Occurrences by the ranks of their tokens: each token that is told apart by its place is significant.
-use Rattle.std.proofs.Common.{◌≡◌, ℕ, ◌+◌, ◌<◌, ◌⊎◌, inl, inr, Bool, false, Option, Some, None, List, [], ◌∷◌, length, map, ap, refl, subst, sym, ◌∙◌, arith}
+use Rattle.std.proofs.Common.{◌≡◌, ℕ, ◌+◌, ◌<◌, ◌⊎◌, inl, inr, false, Option, Some, None, List, ◌∷◌, length}
 use Rattle.std.proofs.lemmas.Option.{slice_get_within}
 use Rattle.luf_lex.specs.declared.token.Tok.{Tok}
 use Rattle.luf_tree.specs.Grammar.{IsToken, IsString}
-use Rattle.luf_tree.specs.TokenSyntax as tokens
 use Rattle.luf_bare.specs.Significant.{is_among}
 use Rattle.luf_bare.specs.Rank.{rank, ranks}
 use Rattle.luf_bare.proofs.RankedParts.{Step as Kept}
 use Rattle.luf_scope.specs.Occurrences.{Holder}
 use Rattle.luf_scope.specs.declared.occurrence.Occurrence.{Occurrence}
 use Rattle.luf_scope.specs.declared.occurrence.Occurrence.TheVariants.{Local, LocalFunction, Parameter, ImplicitSelf, LoopVariable, Reads, Assigns, Field, Varargs, Function, Loop, Label, Goto, Break}
-use Rattle.luf_resolved.proofs.Paired.{Paired, nothing, joined, more as more_paired}
+use Rattle.luf_resolved.proofs.Paired.{Paired, more as more_paired}
 
 module _ (toks : List Tok) (all : List ℕ) where
   -- a significant token

@@ -1,10 +1,9 @@
 -- Small chunks, each with what it resolves to, by computation.
-use Rattle.std.specs.Prelude.{◌≡◌, ℕ, Bool, true, false, Option, Some, None, List, [], ◌∷◌, slice_get, unwrap_or, codes}
+use Rattle.std.specs.Prelude.{◌≡◌, ℕ, Some, None, List, [], ◌∷◌, slice_get, unwrap_or, codes}
 use Rattle.std.proofs.Common.{refl}
 use Rattle.luf_tree.specs.Syntax as syntax
 use Rattle.luf_tree.specs.TokenSyntax.{from_to}
 use Rattle.luf_tree.specs.TokenSyntax as tokens
-use Rattle.luf_scope.specs.declared.binder.BinderKind.{BinderKind}
 use Rattle.luf_scope.specs.declared.binder.BinderKind.TheVariants as kind
 use Rattle.luf_resolved.specs.Resolved.{NameMeaning, variable, global, own_environment, Meant, ResolvedProgram, resolved}
 
@@ -27,11 +26,11 @@ shadowed_row :
     (syntax.local_statement (from_to 0 4) (record { name = 1; attribute = None } ∷ []) (alone (syntax.variable (from_to 3 4) 3)))
     (two (syntax.empty_statement (from_to 4 5)) (syntax.assignment (from_to 5 8) (alone (syntax.variable (from_to 5 6) 5)) (alone (syntax.variable (from_to 7 8) 7))))))
     ≡ record {
-        kinds = kind.Local ∷ [];
-        program = syntax.block tt (two
-            (syntax.local_statement tt (record { name = variable 0; attribute = None } ∷ []) (alone (meant (global None (codes "x")))))
-            (syntax.assignment tt (alone (meant (variable 0))) (alone (meant (global None (codes "y"))))));
-      }
+      kinds = kind.Local ∷ [];
+      program = syntax.block tt (two
+          (syntax.local_statement tt (record { name = variable 0; attribute = None } ∷ []) (alone (meant (global None (codes "x")))))
+          (syntax.assignment tt (alone (meant (variable 0))) (alone (meant (global None (codes "y"))))));
+    }
 shadowed_row = refl
 
 -- local _ENV <const> = _ENV x = _ENV
@@ -41,11 +40,11 @@ environment_row :
     (syntax.local_statement (from_to 0 7) (record { name = 1; attribute = Some 3 } ∷ []) (alone (syntax.variable (from_to 6 7) 6)))
     (syntax.assignment (from_to 7 10) (alone (syntax.variable (from_to 7 8) 7)) (alone (syntax.variable (from_to 9 10) 9)))))
     ≡ record {
-        kinds = kind.Const ∷ [];
-        program = syntax.block tt (two
-            (syntax.local_statement tt (record { name = variable 0; attribute = Some (codes "const") } ∷ []) (alone (meant own_environment)))
-            (syntax.assignment tt (alone (meant (global (Some 0) (codes "x")))) (alone (meant (variable 0)))));
-      }
+      kinds = kind.Const ∷ [];
+      program = syntax.block tt (two
+          (syntax.local_statement tt (record { name = variable 0; attribute = Some (codes "const") } ∷ []) (alone (meant own_environment)))
+          (syntax.assignment tt (alone (meant (global (Some 0) (codes "x")))) (alone (meant (variable 0)))));
+    }
 environment_row = refl
 
 -- ::a:: goto a

@@ -1,5 +1,5 @@
 -- A source has one cut, so with one tree it resolves to one program.
-use Rattle.std.proofs.Common.{◌≡◌, List, ap, sym, ◌∙◌}
+use Rattle.std.proofs.Common.{List, ap, sym, ◌∙◌}
 use Rattle.luf_lex.specs.declared.token.Piece.{Piece}
 use Rattle.luf_tree.specs.SyntaxOf.{syntax_of}
 use Rattle.luf_lex.proofs.OneCut.{one_cut}

@@ -50,11 +50,11 @@ Meant = record { Span = Unit {0}; Name = NameMeaning; Label = Option ℕ; Leaf =
 
 abbrev pub meanings : Spelling → List Occurrence → ShapeMap tokens.Tokens Meant
 meanings spelled occurrences = record {
-    span = λ _. tt;
-    name = λ token. name_meaning (role_of spelled occurrences token) (meaning (locals_of spelled occurrences) token (codes "_ENV")) (spelled token);
-    label = λ token. label_number (jump_role_of spelled occurrences token);
-    leaf = spelled;
-  }
+  span = λ _. tt;
+  name = λ token. name_meaning (role_of spelled occurrences token) (meaning (locals_of spelled occurrences) token (codes "_ENV")) (spelled token);
+  label = λ token. label_number (jump_role_of spelled occurrences token);
+  leaf = spelled;
+}
 
 -- how each local variable is declared, by their numbers (an implicit `self` has no place in the syntax), and the program
 pub record ResolvedProgram : Type 0 where
@@ -67,6 +67,6 @@ kinds_of spelled occurrences = map (λ v. v.kind) (locals_of spelled occurrences
 -- what a chunk resolves to, where its tokens are spelled so
 abbrev pub resolved : Spelling → tokens.Block → ResolvedProgram
 resolved spelled chunk = record {
-    kinds = kinds_of spelled (occurrences_in_block chunk);
-    program = bare_block (meanings spelled (occurrences_in_block chunk)) chunk;
-  }
+  kinds = kinds_of spelled (occurrences_in_block chunk);
+  program = bare_block (meanings spelled (occurrences_in_block chunk)) chunk;
+}

@@ -1,7 +1,12 @@
 // Laws of what a source resolves to.
-ghost use Rattle.luf_resolved.specs.ResolvedLaws.{OneMeaning};
+ghost use Rattle.luf_resolved.specs.ResolvedLaws.{BareResolvesAlike, OneMeaning};
 
 /// With one tree a source resolves to one program.
 pub fn one_meaning()
     ensures { OneMeaning }
+{}
+
+/// A chunk resolves to what its bare program by ranks resolves to.
+pub fn bare_resolves_alike()
+    ensures { BareResolvesAlike }
 {}
