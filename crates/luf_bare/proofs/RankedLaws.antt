@@ -1,5 +1,5 @@
 -- The bare part by ranks is that of the bare program, placed on from the rank at which it begins.
-use Rattle.std.proofs.Common.{◌≡◌, ℕ, ◌+◌, ◌-◌, ◌<◌, ◌⊎◌, inl, inr, Bool, true, false, Option, Some, None, List, [], ◌∷◌, map, ap, sym, refl, subst, ◌∙◌, arith}
+use Rattle.std.proofs.Common.{◌≡◌, ℕ, ◌+◌, ◌-◌, Bool, true, false, Option, Some, None, List, [], ◌∷◌, map, ap, sym, refl, subst, ◌∙◌, arith}
 use Rattle.std.specs.Option.{option_map}
 use Rattle.luf_lex.specs.declared.token.Tok.{Tok}
 use Rattle.luf_tree.specs.declared.tree.Block.{Block}
@@ -31,7 +31,7 @@ use Rattle.luf_bare.specs.Rank.{rank, ranks, ranked}
 use Rattle.luf_bare.specs.ReadBack.{own_word, spelled_at, word_at}
 use Rattle.luf_bare.specs.RankedAgain.{OneRanking, RankedAgain}
 use Rattle.luf_bare.proofs.Placed.{Placed, placed, path_of, placed_names, placed_parameters, placed_attribute, placed_declared, placed_method, placed_enclosed, placed_expression, placed_for_step, placed_expressions, placed_operations, placed_suffix, placed_suffixes, placed_list, placed_arguments, placed_field, placed_fields, placed_statement, placed_statements, placed_arm, placed_arms, placed_block, placed_else, placed_body}
-use Rattle.luf_bare.proofs.RankedParts.{Step as Kept, Same, Part, to, none, seq, kept, lost, kept_string, lost_one, claimed}
+use Rattle.luf_bare.proofs.RankedParts.{Step as Kept, Same, Part, to, none, seq, kept, lost, kept_string, lost_one, between_room, separator_next, claimed}
 
 module _ {all : List ℕ} where
   up : {i j n : ℕ} → Kept all i j → rank all i ≡ n → rank all j ≡ n + 1
@@ -40,18 +40,11 @@ module _ {all : List ℕ} where
   over : {i j n : ℕ} → Same all i j → rank all i ≡ n → rank all j ≡ n
   over dropped at = dropped.same ∙ at
 
-  between_room : {i j k : ℕ} {ds after : List ℕ} {C : Type 0} → j ≡ i + 1 → Part all j k ds after C → i < k
-  between_room next part = omega (arith, next, part.drops.on)
-
 ends : {A : Type 0} {x y : Placed A} → x ≡ y → x.end ≡ y.end
 ends e = ap (λ z. z.end) e
 
 less_one : {m n : ℕ} → m ≡ n → m ≡ (n + 1) - 1
 less_one e = omega (arith, e)
-
-separator_next : {toks : List Tok} {t u : Tok} {i j : ℕ} → IsToken toks i t j ⊎ IsToken toks i u j → j ≡ i + 1
-separator_next (inl t) = t.next
-separator_next (inr t) = t.next
 
 module _ {X : Type 0} where
   -- a statement, if it is one of the program

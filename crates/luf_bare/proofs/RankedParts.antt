@@ -92,6 +92,14 @@ module _ {all : List ℕ} where
   lost_one (inl token) rest = lost_next token.next rest
   lost_one (inr token) rest = lost_next token.next rest
 
+  -- there is room for a token before a part
+  pub between_room : {i j k : ℕ} {ds after : List ℕ} {C : Type 0} → j ≡ i + 1 → Part all j k ds after C → i < k
+  between_room next part = omega (arith, next, part.drops.on)
+
+pub separator_next : {toks : List Tok} {t u : Tok} {i j : ℕ} → IsToken toks i t j ⊎ IsToken toks i u j → j ≡ i + 1
+separator_next (inl token) = token.next
+separator_next (inr token) = token.next
+
 -- the claim of a whole chunk
 pub claimed : {all : List ℕ} {n : ℕ} {C : Type 0} → Part all 0 n all [] C → C
 claimed part = part.claim (λ p le. refl) (λ p less. refl)

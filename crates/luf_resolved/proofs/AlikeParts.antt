@@ -1,6 +1,6 @@
 -- Each part of a chunk is alike by ranks: its words are significant tokens, and its occurrences are those of its bare part
 -- by ranks, with ranks for places.
-use Rattle.std.proofs.Common.{◌≡◌, ℕ, ◌+◌, ◌-◌, ◌<◌, ◌⊎◌, inl, inr, Bool, true, false, ◌&&◌, Option, Some, None, List, [], ◌∷◌, ◌++◌, map, ap, sym, refl, subst, ◌∙◌, arith}
+use Rattle.std.proofs.Common.{◌≡◌, ℕ, ◌+◌, ◌-◌, Bool, true, false, ◌&&◌, Option, Some, None, List, [], ◌∷◌, ◌++◌, map, ap, sym, refl, subst, ◌∙◌, arith}
 use Rattle.std.specs.Option.{option_map}
 use Rattle.luf_lex.specs.declared.token.Tok.{Tok}
 use Rattle.luf_tree.specs.declared.tree.Block.{Block}
@@ -28,24 +28,17 @@ use Rattle.luf_tree.proofs.SyntaxEquations.{nil_syntax, true_syntax, false_synta
 use Rattle.luf_bare.specs.Lone.{is_lone}
 use Rattle.luf_bare.specs.Rank.{rank, ranks}
 use Rattle.luf_bare.proofs.EachWritten.{Each, all_none, all_more}
-use Rattle.luf_bare.proofs.RankedParts.{Step as Kept, Part, to, none, seq, kept, lost, kept_string, lost_one}
+use Rattle.luf_bare.proofs.RankedParts.{Step as Kept, Part, to, none, seq, kept, lost, kept_string, lost_one, between_room, separator_next}
 use Rattle.luf_scope.specs.Occurrences.{Holder, span_of, is_void, are_void, declared_locals, loop_variables_of, parameters_of, loop_of, path_of, method_of, body_of, span_of_body, target_of, occurrences_in_expression, occurrences_in_optional_expression, occurrences_in_expressions, occurrences_in_targets, occurrences_in_operations, occurrences_in_suffix, occurrences_in_suffixes, occurrences_in_arguments, occurrences_in_field, occurrences_in_fields, occurrences_in_statement, occurrences_in_statements, occurrences_in_arm, occurrences_in_arms, occurrences_in_block, occurrences_in_repeated, occurrences_in_optional_block, occurrences_in_body}
 use Rattle.luf_scope.specs.declared.occurrence.Occurrence.{Occurrence}
 use Rattle.luf_scope.specs.declared.occurrence.Occurrence.TheVariants.{Local, LocalFunction, Parameter, ImplicitSelf, LoopVariable, Field as FieldName, Loop}
 use Rattle.luf_resolved.proofs.Paired.{nothing, joined}
 use Rattle.luf_resolved.proofs.Ranking.{Solid, SolidOption, Opened, Ranked, ranked_option, ranked_holder, more, solid, solid_string, opened}
 
-between_room : {all : List ℕ} {i j k : ℕ} {ds after : List ℕ} {C : Type 0} → j ≡ i + 1 → Part all j k ds after C → i < k
-between_room next part = omega (arith, next, part.drops.on)
-
-separator_next : {toks : List Tok} {t u : Tok} {i j : ℕ} → IsToken toks i t j ⊎ IsToken toks i u j → j ≡ i + 1
-separator_next (inl t) = t.next
-separator_next (inr t) = t.next
-
 -- ---- spans, and what is void, of a bare part
 
 block_span : (f : ShapeMap tokens.Tokens tokens.Tokens) (b : tokens.Block) → span_of (bare_block f b) ≡ f.span (span_of b)
-block_span f (syntax.block span statements) = refl
+block_span f (syntax.block span body) = refl
 
 body_span : (f : ShapeMap tokens.Tokens tokens.Tokens) (b : tokens.FunctionBody) → span_of_body (bare_function_body f b) ≡ f.span (span_of_body b)
 body_span f (syntax.function_body span parameters vararg body) = refl

@@ -1,5 +1,5 @@
 -- What a source resolves to is one, and depends on its bare program alone.
-use Rattle.std.specs.Prelude.{◌≡◌, ℕ, List, [], length, slice_get, unwrap_or}
+use Rattle.std.specs.Prelude.{◌≡◌, ℕ, List, [], map, length, slice_get, unwrap_or}
 use Rattle.std.specs.Option.{option_map}
 use Rattle.luf_lex.specs.Cut.{IsCut}
 use Rattle.luf_lex.specs.Tokens.{toks_of, spellings_of}
@@ -10,6 +10,7 @@ use Rattle.luf_tree.specs.Grammar.{IsChunk}
 use Rattle.luf_tree.specs.SyntaxOf.{syntax_of}
 use Rattle.luf_tree.specs.TokenSyntax as tokens
 use Rattle.luf_bare.specs.Rank.{ranked}
+use Rattle.luf_bare.specs.ReadBack.{SpelledToken, TextWord, IsReadBack, spelled_at, word_at}
 use Rattle.luf_bare.specs.Significant.{significant}
 use Rattle.luf_scope.specs.Local.{Spelling}
 use Rattle.luf_resolved.specs.Resolved.{ResolvedProgram, resolved}
@@ -38,3 +39,9 @@ abbrev pub BareResolvesAlike : Type 0
 BareResolvesAlike =
     (toks : List Tok) (chunk : Chunk) (spelled : Spelling) → IsChunk toks chunk
     → resolved spelled (syntax_of chunk) ≡ resolved (by_rank spelled (syntax_of chunk) (length toks)) (ranked (syntax_of chunk))
+
+-- a text that is written of a chunk resolves, as it is read, to what the chunk resolves to
+abbrev pub WrittenResolvesAlike : Type 0
+WrittenResolvesAlike =
+    (source : List SpelledToken) (chunk : Chunk) (text : List TextWord) → IsChunk (map (λ (w : SpelledToken). w.token) source) chunk → (back : IsReadBack source chunk text)
+    → resolved (λ i. (word_at text i).spelled.spelling) (syntax_of back.read.tree) ≡ resolved (λ i. (spelled_at source i).spelling) (syntax_of chunk)

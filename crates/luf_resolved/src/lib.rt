@@ -3,4 +3,4 @@
 
 mod laws;
 
-pub use laws::{bare_resolves_alike, one_meaning};
+pub use laws::{bare_resolves_alike, one_meaning, written_resolves_alike};
