@@ -5,6 +5,9 @@ pub mod Reading
 pub mod Written
 pub mod Significant
 pub mod Ranks
+pub mod Placed
+pub mod RankedParts
+pub mod RankedLaws
 pub mod EachWritten
 pub mod ReadBackLaws
 pub mod Examples

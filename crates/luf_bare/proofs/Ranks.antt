@@ -23,7 +23,7 @@ one_more ds i (suc n) =
     let last : counted (is_among ((i + 1) + n) ds) ≡ counted (is_among (i + suc n) ds) = ap (λ k. counted (is_among k ds)) (omega arith) in
     omega (arith, length_if (is_among i ds) i (places_but ds (i + 1) (suc n)), one_more ds (i + 1) n, length_if (is_among i ds) i (places_but ds (i + 1) n), last)
 
-rank_up : (ds : List ℕ) (i j : ℕ) → i ≤ j → rank ds i ≤ rank ds j
+pub rank_up : (ds : List ℕ) (i j : ℕ) → i ≤ j → rank ds i ≤ rank ds j
 rank_up ds i zero le = let start : i ≡ 0 = omega (arith, le) in subst (λ k. rank ds k ≤ rank ds 0) (sym start) (omega arith)
 rank_up ds i (suc j) le = by_case (cases_lt j i) (rank_up ds i j)
   where
@@ -31,11 +31,17 @@ rank_up ds i (suc j) le = by_case (cases_lt j i) (rank_up ds i j)
     by_case (inl above) up = let same : suc j ≡ i = omega (arith, above, le) in subst (λ k. rank ds k ≤ rank ds (suc j)) same (omega arith)
     by_case (inr below) up = omega (arith, up below, one_more ds 0 j)
 
-rank_of_next : (ds : List ℕ) (token : ℕ) → is_among token ds ≡ false → rank ds (suc token) ≡ rank ds token + 1
+pub rank_of_next : (ds : List ℕ) (token : ℕ) → is_among token ds ≡ false → rank ds (suc token) ≡ rank ds token + 1
 unfolding counted
 rank_of_next ds token significant =
     let counts : counted (is_among (0 + token) ds) ≡ 1 = ap (λ k. counted (is_among k ds)) (omega arith) ∙ ap counted significant in
     omega (arith, one_more ds 0 token, counts)
+
+pub rank_of_dropped : (ds : List ℕ) (i : ℕ) → is_among i ds ≡ true → rank ds (suc i) ≡ rank ds i
+unfolding counted
+rank_of_dropped ds i dropped =
+    let counts : counted (is_among (0 + i) ds) ≡ 0 = ap (λ k. counted (is_among k ds)) (omega arith) ∙ ap counted dropped in
+    omega (arith, one_more ds 0 i, counts)
 
 pub ranks_in_order : RanksInOrder
 ranks_in_order ds token place significant = (forward, backward (cases_lt token place))

@@ -6,3 +6,4 @@ pub mod Writing
 pub mod Texts
 pub mod Rank
 pub mod ReadBack
+pub mod RankedAgain

@@ -1,5 +1,6 @@
 // Laws of what is written of a bare program.
 ghost use Rattle.luf_bare.specs.Rank.{RanksCount, RanksInOrder};
+ghost use Rattle.luf_bare.specs.RankedAgain.{OneRanking, RankedAgain};
 ghost use Rattle.luf_bare.specs.ReadBack.{OneDepth, SignificantAreWritten, TextIsRead, WrittenIsRead};
 
 /// Chunks of one bare program are nested equally deep.
@@ -30,4 +31,14 @@ pub fn ranks_in_order()
 /// The rank of a significant token is its number among the significant tokens.
 pub fn ranks_count()
     ensures { RanksCount }
+{}
+
+/// Chunks of one bare program have one bare program by ranks.
+pub fn one_ranking()
+    ensures { OneRanking }
+{}
+
+/// What is read of a text that is written of a chunk has the same bare program by ranks.
+pub fn ranked_again()
+    ensures { RankedAgain }
 {}

@@ -4,5 +4,6 @@
 mod laws;
 
 pub use laws::{
-    one_depth, ranks_count, ranks_in_order, significant_are_written, text_is_read, written_is_read,
+    one_depth, one_ranking, ranked_again, ranks_count, ranks_in_order, significant_are_written,
+    text_is_read, written_is_read,
 };

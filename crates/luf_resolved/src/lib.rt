@@ -1,0 +1,6 @@
+//! What a chunk resolves to: its bare program, with what names and labels mean.
+#![tactic(auto)]
+
+mod laws;
+
+pub use laws::{bare_resolves_alike, one_meaning, written_resolves_alike};
