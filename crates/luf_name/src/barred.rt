@@ -3,6 +3,7 @@ ghost use Rattle.std.specs.Prelude.{◌↔◌, IsTrue};
 ghost use Rattle.luf_name.specs.Barred.{IsBarred};
 
 /// A keyword of Lua 5.4, `self` or `_ENV`.
+#[tactic(auto, using(crate::proofs::Words::function_is_barred))]
 pub fn is_barred(name: &[u8]) -> bool
     ensures { IsTrue result ↔ IsBarred name.now }
 {
