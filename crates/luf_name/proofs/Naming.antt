@@ -30,10 +30,12 @@ named_by_more n name above is_nth = named_push name ((n - 53) / 63) ((n - 53) % 
 named_below : (bound n : ℕ) → n < bound → (name : List ℕ) × IsNth name n
 named_below zero n below = absurd (omega (arith, below))
 named_below (suc bound) n below =
-    elim (cases_lt n 53) [ inl few ↦ (get_or alphabet n 0 ∷ [], named_by_letter n few)
-    | inr many ↦
-        let front = named_below bound ((n - 53) / 63) (omega (arith, below, many)) in
-        (front.0 ++ get_or alphabet ((n - 53) % 63) 0 ∷ [], named_by_more n front.0 many front.1) ]
+    elim (cases_lt n 53) [
+      | inl few ↦ (get_or alphabet n 0 ∷ [], named_by_letter n few)
+      | inr many ↦
+          let front = named_below bound ((n - 53) / 63) (omega (arith, below, many)) in
+          (front.0 ++ get_or alphabet ((n - 53) % 63) 0 ∷ [], named_by_more n front.0 many front.1)
+    ]
 
 pub none_left_out : (n : ℕ) → (name : List ℕ) × IsNth name n
 none_left_out n = named_below (suc n) n (omega arith)

@@ -45,12 +45,14 @@ rises (a ∷ rest) (b ∷ others) is_name is_other (inl fewer) =
     shorter (rank a) (rank b) rest others is_name.1 (omega (arith, is_name.0)) (omega (arith, fewer))
 rises (a ∷ rest) (b ∷ others) is_name is_other (inr at_first) =
     let same : length rest ≡ length others = omega (arith, at_first.0) in
-    elim at_first.1 [ inl below ↦ lower_before (rank a) (rank b) rest others is_name.1 same below
-    | inr then ↦
-        let one : rank a ≡ rank b = ap rank then.0 in
-        let later : number_from (rank a) rest < number_from (rank a) others = lower (rank a) rest others is_name.1 same then.1 in
-        let there : number_from (rank a) others ≡ number_from (rank b) others = ap (λ k. number_from k others) one in
-        omega (arith, later, there) ]
+    elim at_first.1 [
+      | inl below ↦ lower_before (rank a) (rank b) rest others is_name.1 same below
+      | inr then ↦
+          let one : rank a ≡ rank b = ap rank then.0 in
+          let later : number_from (rank a) rest < number_from (rank a) others = lower (rank a) rest others is_name.1 same then.1 in
+          let there : number_from (rank a) others ≡ number_from (rank b) others = ap (λ k. number_from k others) one in
+          omega (arith, later, there)
+    ]
 
 -- of two names one is before the other, or they are one
 add_first : (a b : ℕ) (rest others : List ℕ) → a ≡ b → IsLower rest others ⊎ ((rest ≡ others) ⊎ IsLower others rest) → IsLower (a ∷ rest) (b ∷ others) ⊎ ((a ∷ rest ≡ b ∷ others) ⊎ IsLower (b ∷ others) (a ∷ rest))
@@ -64,8 +66,10 @@ compared [] (b ∷ others) letters others_letters same = absurd (omega (arith, s
 compared (a ∷ rest) [] letters others_letters same = absurd (omega (arith, same))
 compared (a ∷ rest) (b ∷ others) letters others_letters same =
     let behind = compared rest others (All-tail IsLetter a rest letters) (All-tail IsLetter b others others_letters) (omega (arith, same)) in
-    elim (cases_order (rank a) (rank b)) [ inl one ↦ add_first a b rest others (same_rank a b (All-head IsLetter a rest letters) one) behind
-    | inr differs ↦ elim differs [ inl below ↦ inl (inl below) | inr above ↦ inr (inr (inl above)) ] ]
+    elim (cases_order (rank a) (rank b)) [
+      | inl one ↦ add_first a b rest others (same_rank a b (All-head IsLetter a rest letters) one) behind
+      | inr differs ↦ elim differs [ inl below ↦ inl (inl below) | inr above ↦ inr (inr (inl above)) ]
+    ]
 
 all_letters : (a : ℕ) (rest : List ℕ) → IsName (a ∷ rest) → All IsLetter (a ∷ rest)
 all_letters a rest is_name = All-cons IsLetter a rest (omega (arith, is_name.0)) is_name.1
@@ -79,8 +83,10 @@ ordered : (name other : List ℕ) → IsName name → IsName other → IsBefore 
 ordered [] other is_name is_other = absurd is_name
 ordered (a ∷ rest) [] is_name is_other = absurd is_other
 ordered (a ∷ rest) (b ∷ others) is_name is_other =
-    elim (cases_order (length (a ∷ rest)) (length (b ∷ others))) [ inl same ↦ one_length (a ∷ rest) (b ∷ others) same (compared (a ∷ rest) (b ∷ others) (all_letters a rest is_name) (all_letters b others is_other) same)
-    | inr differs ↦ elim differs [ inl fewer ↦ inl (inl fewer) | inr more ↦ inr (inr (inl more)) ] ]
+    elim (cases_order (length (a ∷ rest)) (length (b ∷ others))) [
+      | inl same ↦ one_length (a ∷ rest) (b ∷ others) same (compared (a ∷ rest) (b ∷ others) (all_letters a rest is_name) (all_letters b others is_other) same)
+      | inr differs ↦ elim differs [ inl fewer ↦ inl (inl fewer) | inr more ↦ inr (inr (inl more)) ]
+    ]
 
 before_from : (name other : List ℕ) → IsName name → IsName other → number_of name < number_of other → IsBefore name other ⊎ ((name ≡ other) ⊎ IsBefore other name) → IsBefore name other
 before_from name other is_name is_other below (inl before) = before

@@ -4,6 +4,8 @@
 mod barred;
 mod laws;
 mod name;
+#[cfg(test)]
+mod tests;
 
 pub use barred::is_barred;
 pub use laws::{names_rise, none_left_out, one_name};
