@@ -1,0 +1,12 @@
+//! Short names for variables, in order, and the names that are barred.
+#![tactic(auto)]
+
+mod barred;
+mod laws;
+mod name;
+#[cfg(test)]
+mod tests;
+
+pub use barred::is_barred;
+pub use laws::{names_rise, none_left_out, one_name};
+pub use name::{Name, nth};
