@@ -6,7 +6,6 @@ use Rattle.std.proofs.lemmas.Option.{unwrap_or-slice_get, slice_get-map}
 use Rattle.luf_text.specs.Place.{place_in}
 use Rattle.luf_text.specs.declared.Span.{Span}
 use Rattle.luf_text.specs.declared.place.Place.{Place}
-use Rattle.luf_lex.specs.Cut.{IsCut}
 use Rattle.luf_lex.specs.Tokens.{toks_of, spans_of, spellings_of}
 use Rattle.luf_lex.specs.declared.fault.LexWhat.{LexWhat}
 use Rattle.luf_lex.specs.declared.token.Piece.{Piece}
@@ -16,7 +15,7 @@ use Rattle.luf_tree.specs.Grammar.{IsChunk}
 use Rattle.luf_work.specs.Limits.{source_limit}
 use Rattle.luf_work.specs.Minify.{IsMinified, IsMinifyAccepted, HasLargeText, IsMinifyRefusal}
 use Rattle.luf_work.specs.Refusals.{start_of, IsLexicalAt, HasNoTreeAt, IsSourceRefusal, IsSameRefusal, AnswersRefusal}
-use Rattle.luf_work.specs.Source.{IsSource, IsAccepted}
+use Rattle.luf_work.specs.Source.{IsSource}
 use Rattle.luf_work.specs.Text.{IsJoined, nothing, alone, apart, spaced, hash_text}
 use Rattle.luf_work.specs.declared.refusal.Refusal.{Refusal}
 use Rattle.luf_work.specs.declared.refusal.Refusal.TheVariants.{TooLarge, Lexical, Syntax, TooDeep, Chunk as BadChunk, ResultTooLarge, Memory}

@@ -8,7 +8,10 @@ mod minify;
 mod refusal;
 mod text;
 
-pub use laws::{accepted_not_refused, list_accepted_not_refused, one_list_refusal, one_listing, one_refusal, one_text};
+pub use laws::{
+    accepted_not_refused, list_accepted_not_refused, one_list_refusal, one_listing, one_refusal,
+    one_text,
+};
 pub use limits::{SOURCE_LIMIT, TEXT_LIMIT};
 pub use list::list_bytes;
 pub use minify::minify_bytes;
