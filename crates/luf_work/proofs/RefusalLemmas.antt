@@ -6,7 +6,6 @@ use Rattle.std.proofs.lemmas.Option.{unwrap_or-slice_get, slice_get-map}
 use Rattle.luf_text.specs.Place.{place_in}
 use Rattle.luf_text.specs.declared.Span.{Span}
 use Rattle.luf_text.specs.declared.place.Place.{Place}
-use Rattle.luf_lex.specs.Cut.{IsCut}
 use Rattle.luf_lex.specs.Tokens.{toks_of, spans_of, spellings_of}
 use Rattle.luf_lex.specs.declared.fault.LexWhat.{LexWhat}
 use Rattle.luf_lex.specs.declared.token.Piece.{Piece}

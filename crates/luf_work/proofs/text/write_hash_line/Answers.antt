@@ -1,6 +1,5 @@
-use Rattle.std.proofs.Common.{take, length, sym, ap, subst, arith, ◌∙◌, ◌≡◌, ◌++◌}
+use Rattle.std.proofs.Common.{take, ap, arith, ◌∙◌, ◌≡◌, ◌++◌}
 use Rattle.std.proofs.lemmas.List.{take_all}
-use Rattle.luf_lex.specs.Cut.{IsCut}
 use Rattle.luf_work.specs.Text.{hash_text}
 use Rattle.luf_work.proofs.TextAgain.{hash_text_first}
 use Rattle.luf_work.proofs.TextLemmas.{first_within, front_kept}
