@@ -30,9 +30,10 @@ impl Model for Name {
 /// The letters of names, in their order.
 const ALPHABET: &[u8; 63] = b"abcdefghijklmnopqrstuvwxyzABCDEFGHIJKLMNOPQRSTUVWXYZ_0123456789";
 
-/// How many letters there are, and with how many of them a name may begin.
+/// How many letters there are.
 const LETTERS: u32 = 63;
 
+/// With how many of them, the first, a name may begin.
 const FIRST_LETTERS: u32 = 53;
 
 impl Name {
