@@ -1,8 +1,8 @@
 -- The name of a number: with a letter more, 63 names of each.
-use Rattle.std.proofs.Common.{◌≡◌, ap, ℕ, ◌+◌, ◌-◌, ◌*◌, ◌/◌, ◌%◌, ◌^◌, ◌<◌, ◌≤◌, inl, inr, zero, suc, List, [], ◌∷◌, ◌++◌, length, get_or, refl, arith}
+use Rattle.std.proofs.Common.{◌≡◌, ℕ, ◌+◌, ◌-◌, ◌*◌, ◌/◌, ◌%◌, ◌^◌, ◌<◌, ◌≤◌, inl, inr, zero, suc, List, [], ◌∷◌, ◌++◌, length, get_or, refl, arith}
 use Rattle.std.proofs.lemmas.Bool.{cases_lt}
 use Rattle.std.proofs.lemmas.List.Elements.{All-nil, All-push}
-use Rattle.luf_name.specs.Order.{alphabet, rank, IsLetter, IsName, IsNth, number_from, number_of}
+use Rattle.luf_name.specs.Order.{alphabet, rank, IsLetter, IsNth, number_from}
 use Rattle.luf_name.proofs.Ranks.{rank_of_letter}
 use Rattle.luf_name.proofs.Rising.{number_grows}
 

@@ -32,8 +32,9 @@ abbrev pub number_from : ℕ → List ℕ → ℕ
 number_from n [] = n
 number_from n (letter ∷ rest) = number_from (n * 63 + 53 + rank letter) rest
 
--- how many names come before a name. Those before `xy` are the 53 of one letter, all that begin with a name of one
--- letter before `x`, 63 for each, and those that begin with `x` and end lower.
+-- How many names come before a name. Before one of more letters come the 53 of one letter, the 63 that go on with a
+-- letter behind each name before its front (the name without its last letter), and those of its own front that end
+-- lower. That this counts them is the laws: numbers rise with the names, and none is left out.
 abbrev pub number_of : List ℕ → ℕ
 number_of [] = 0
 number_of (first ∷ rest) = number_from (rank first) rest

@@ -31,7 +31,7 @@ pub fn is_barred(name: &[u8]) -> bool
         | b"until"
         | b"while"
         | b"self"
-        | b"_ENV" => { true }
+        | b"_ENV" => true,
         _ => false,
     }
 }

@@ -30,6 +30,12 @@ impl Model for Name {
 /// The letters of names, in their order.
 const ALPHABET: &[u8; 63] = b"abcdefghijklmnopqrstuvwxyzABCDEFGHIJKLMNOPQRSTUVWXYZ_0123456789";
 
+/// How many letters there are.
+const LETTERS: u32 = 63;
+
+/// With how many of them, the first, a name may begin.
+const FIRST_LETTERS: u32 = 53;
+
 impl Name {
     /// The bytes of the name.
     pub fn as_slice(&self) -> &[u8]
@@ -63,10 +69,11 @@ pub fn nth(n: u32) -> Name
     ensures name { IsNth result n }
     ensures short { length result ≤ 6 }
 {
-    if n < 53 {
+    if n < FIRST_LETTERS {
         return Name::of_letter(ALPHABET[n as usize]);
     }
-    let mut name = nth((n - 53) / 63);
-    name.push(ALPHABET[((n - 53) % 63) as usize]);
+    let longer = n - FIRST_LETTERS;
+    let mut name = nth(longer / LETTERS);
+    name.push(ALPHABET[(longer % LETTERS) as usize]);
     name
 }
