@@ -1,9 +1,9 @@
 """`luafmt minify` on the Lua files of a folder, beside luac5.4.
 
-- luafmt takes a file exactly where luac5.4 does. Told apart are: where luac refuses for another cause than grammar (scopes,
-  and its own limits), where luafmt refuses for a limit of its own, and compiled chunks, which are no Lua.
+- luafmt takes a file exactly where luac5.4 does. Told apart are: where luac refuses for a limit of its own, where luafmt does,
+  and compiled chunks, which are no Lua.
 - The minified text of a file is compiled to the same chunk, without lines (chunk.py). Where luac refuses the file for
-  another cause than grammar, it refuses its minified text for the same.
+  a limit of its own, it refuses its minified text for the same.
 - A minified text is its own minified text.
 """
 import collections
@@ -18,12 +18,13 @@ from chunk import without_lines
 LUAFMT = [sys.argv[1], "minify"]
 LUAC = ["luac5.4", "-o", "-", "-"]
 OWN_LIMITS = ("TooLarge", "TooDeep", "ResultTooLarge")
-# What luac refuses that the grammar does not, by its messages in lparser.c, lcode.c, ldo.c and lstate.c.
-NOT_GRAMMAR = re.compile(
+# What luac refuses by its rules on names and jumps, and by its own limits, by its messages in lparser.c, lcode.c, ldo.c
+# and lstate.c.
+SCOPE = re.compile(
     "break outside|no visible label|jumps into the scope|label '.*' already defined|cannot use '...' outside"
-    "|attempt to assign to const|unknown attribute|multiple to-be-closed|too many |C stack overflow"
-    "|chunk has too many|control structure too long|constants? overflow"
+    "|attempt to assign to const|unknown attribute|multiple to-be-closed"
 )
+LIMIT = re.compile("too many |C stack overflow|chunk has too many|control structure too long|constants? overflow")
 RULE = "{:<22} {}".format
 
 
@@ -40,12 +41,10 @@ def cause(message):
 def compare_refusal(luac, minified):
     """luac refuses, and luafmt has this answer."""
     why = cause(luac.stderr)
-    if not NOT_GRAMMAR.search(why):
-        if minified.returncode == 3:
-            return "refused by both", why
-        return "DIFFERENCE", f"luac: {why}; luafmt: status {minified.returncode}"
     if minified.returncode == 3:
         return "refused by both", why
+    if not LIMIT.search(why):
+        return "DIFFERENCE", f"luac: {why}; luafmt: status {minified.returncode}"
     again = cause(run(LUAC, minified.stdout).stderr)
     if again != why:
         return "DIFFERENCE", f"luac: {why}; of the minified text: {again}"
