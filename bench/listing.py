@@ -34,9 +34,9 @@ LUAC_SIZES = re.compile(r"(\d+)(\+?) params?, (\d+) slots?, ")
 def printed(name, operands):
     """The operands of an instruction as luac prints them."""
     if name in PLAIN:
-        return " ".join(operands) if name != "LOADKX" else operands[0]
+        return " ".join(operands)
     letter = operands[-1] == "k"
-    a, b, c = map(int, (operands[:-1] if letter else operands)[:3]) if len(operands) > 2 else (int(operands[0]), 0, 0)
+    a, b, c = ([int(operand) for operand in operands if operand != "k"] + [0, 0])[:3]
     values = {"a": a, "b": b, "c": c, "sb": b - EXCESS, "sc": c - EXCESS, "k": int(letter)}
     fields = FIELDS.get(name, ["a", "b", "c"])
     text = " ".join(str(values[field]) for field in fields if field != "k?")

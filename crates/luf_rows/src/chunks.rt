@@ -42,7 +42,8 @@ fn lists(rt: HostRuntime) -> Result<(), Fail> {
         let mut into = b"> ".to_vec(alloc)?;
         assert_eq!(rt; list_bytes(alloc, &chunk, &mut into), result, "at {len}");
         let text: &[u8] = match result {
-            Ok(()) => b"> function 0 params 0 vararg 1 stack 2 lines 0 0\n0 VARARGPREP 0 0 0\n1 RETURN 0 1 1\nu 0 1 0 0\n",
+            Ok(()) =>
+                b"> function 0 params 0 vararg 1 stack 2 lines 0 0\n0 VARARGPREP 0 0 0\n1 RETURN 0 1 1\nu 0 1 0 0\n",
             Err(_) => b"> ",
         };
         assert_eq!(rt; into.as_slice(), text, "at {len}");
