@@ -5,12 +5,16 @@ mod adding;
 mod binder;
 mod fault;
 mod jump;
+mod links;
+mod marks;
 mod occurrence;
 mod reading;
 
 pub use binder::{Binder, BinderKind, Role};
 pub use fault::{ScopeBad, ScopeErr, ScopeWhat, first_of};
 pub use jump::JumpRole;
+pub use links::Links;
 pub use luf_memory::Memory;
+pub use marks::Marks;
 pub use occurrence::Occurrence;
 pub use reading::occurrences;
