@@ -1,7 +1,7 @@
 // Of many extents, the last that holds a place.
-ghost use Rattle.std.specs.Prelude.{◌≡◌, ◌+◌, ◌<◌, ◌≤◌, ◌^◌, length, map, vec_len, IfOk, All};
+ghost use Rattle.std.specs.Prelude.{◌≡◌, ℕ, ◌+◌, ◌<◌, ◌≤◌, ◌^◌, length, map, vec_len, IfOk, All};
 ghost use Rattle.std.specs.List.Sorted.{IsNonDecreasingBy};
-ghost use Rattle.luf_goto.specs.inner.Holders.{last_holding, extent_at, IsTrail, IsLast};
+ghost use Rattle.luf_goto.specs.inner.Holders.{last_holding, one_higher, extent_at, IsTrail, IsBound};
 
 use crate::Memory;
 use std::alloc::Global;
@@ -36,7 +36,8 @@ impl Trail {
     fn live(&self, extents: &[Extent], spot: Spot) -> u32
         requires trail { IsTrail extents.now spot.place self.now.next self.now.last.items self.now.before.items }
         requires class { spot.class < vec_len self.now.last }
-        ensures { IsLast extents.now self.now.next spot.class spot.place result }
+        ensures bound { IsBound extents.now self.now.next spot.class spot.place result }
+        ensures last { (t : ℕ) → result ≡ t + 1 → spot.place < (extent_at extents.now t).to }
     {
         let mut top = self.last[spot.class as usize];
         while top > 0 && extents[top as usize - 1].to <= spot.place {
@@ -70,10 +71,55 @@ impl Trail {
         ensures trail { IsTrail extents.now spot.place self.new.next self.new.last.items self.new.before.items }
         ensures next { self.new.next ≡ self.old.next }
         ensures classes { vec_len self.new.last ≡ vec_len self.old.last }
-        ensures last { IsLast extents.now self.old.next spot.class spot.place result }
+        ensures bound { IsBound extents.now self.old.next spot.class spot.place result }
+        ensures last { (t : ℕ) → result ≡ t + 1 → spot.place < (extent_at extents.now t).to }
     {
         let top = self.live(extents, spot);
         self.last[spot.class as usize] = top;
         top
     }
+
+    // The last extent that holds the spot, by a number that is one higher; 0 is none.
+    fn last_holder(&mut self, extents: &[Extent], spot: Spot) -> u32
+        requires few { length extents.now < 2 ^ 32 }
+        requires sorted { IsNonDecreasingBy (λ e. e.from) extents.now }
+        requires extents_in { All (λ e. e.class < vec_len self.old.last) extents.now }
+        requires spot_in { spot.class < vec_len self.old.last }
+        requires trail { IsTrail extents.now spot.place self.old.next self.old.last.items self.old.before.items }
+        ensures trail { IsTrail extents.now spot.place self.new.next self.new.last.items self.new.before.items }
+        ensures classes { vec_len self.new.last ≡ vec_len self.old.last }
+        ensures found { result ≡ one_higher (last_holding extents.now spot) }
+    {
+        while (self.next as usize) < extents.len() && extents[self.next as usize].from <= spot.place {
+            self.enter(extents, spot.place);
+        }
+        self.settle(extents, spot)
+    }
+}
+
+// Of the extents, in the order in which they begin, the last one that holds each spot, where the places of the spots do
+// not fall. Each number is one higher, and 0 is none.
+pub fn last_holders(
+    alloc: Global,
+    extents: &[Extent],
+    classes: usize,
+    spots: &[Spot],
+) -> Result<Vec<u32>, Memory>
+    requires few { length extents.now < 2 ^ 32 }
+    requires sorted { IsNonDecreasingBy (λ e. e.from) extents.now }
+    requires rising { IsNonDecreasingBy (λ s. s.place) spots.now }
+    requires extents_in { All (λ e. e.class < classes) extents.now }
+    requires spots_in { All (λ s. s.class < classes) spots.now }
+    ensures { IfOk result (λ found. found.items ≡ map (λ s. one_higher (last_holding extents.now s)) spots.now) }
+{
+    let mut trail = Trail {
+        next: 0,
+        last: vec![in alloc; 0; classes]?,
+        before: vec![in alloc; 0; extents.len()]?,
+    };
+    let mut found = Vec::new(alloc);
+    for s in spots {
+        found.push(trail.last_holder(extents, *s))?;
+    }
+    Ok(found)
 }
