@@ -98,20 +98,23 @@ impl Trail {
 }
 
 // Of the extents, in the order in which they begin, the last one that holds each spot, where the places of the spots do
-// not fall. Each number is one higher, and 0 is none.
+// not fall. Each number is one higher, and 0 is none. Extents that are too many to be numbered have no room.
 pub fn last_holders(
     alloc: Global,
     extents: &[Extent],
     classes: usize,
     spots: &[Spot],
 ) -> Result<Vec<u32>, Memory>
-    requires few { length extents.now < 2 ^ 32 }
     requires sorted { IsNonDecreasingBy (λ e. e.from) extents.now }
     requires rising { IsNonDecreasingBy (λ s. s.place) spots.now }
     requires extents_in { All (λ e. e.class < classes) extents.now }
     requires spots_in { All (λ s. s.class < classes) spots.now }
-    ensures { IfOk result (λ found. found.items ≡ map (λ s. one_higher (last_holding extents.now s)) spots.now) }
+    ensures found { IfOk result (λ found. found.items ≡ map (λ s. one_higher (last_holding extents.now s)) spots.now) }
+    ensures few { IfOk result (λ found. length extents.now < 2 ^ 32) }
 {
+    if extents.len() > u32::MAX as usize {
+        return Err(Memory);
+    }
     let mut trail = Trail {
         next: 0,
         last: vec![in alloc; 0; classes]?,

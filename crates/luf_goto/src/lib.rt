@@ -2,5 +2,6 @@
 #![tactic(auto)]
 
 mod holders;
+mod sites;
 
 use luf_memory::Memory;
