@@ -1,8 +1,9 @@
 -- What the order of a chunk's occurrences tells of its functions and its jumps.
-use Rattle.std.proofs.Common.{◌≡◌, ℕ, ◌+◌, ◌<◌, ◌≤◌, Bool, true, false, cond, List, [], ◌∷◌, Option, Some, None, All, AllPairs, length, get_or, map, refl, sym, ap, ◌∙◌, arith}
+use Rattle.std.proofs.Common.{◌≡◌, ℕ, ◌+◌, ◌<◌, ◌≤◌, Bool, true, false, cond, List, [], ◌∷◌, Option, Some, None, All, AllPairs, length, get_or, take, ◌++◌, map, refl, sym, ap, ◌∙◌, arith}
+use Rattle.std.proofs.lemmas.List.{get_or-map}
 use Rattle.std.specs.List.{filter_map}
 use Rattle.std.specs.List.Sorted.{IsNonDecreasingBy}
-use Rattle.std.specs.Option.{option_map_or, option_or}
+use Rattle.std.specs.Option.{option_map_or, option_or, option_to_list}
 use Rattle.luf_scope.specs.Local.{last_passing, function_by, functions_of, function_of, is_held}
 use Rattle.luf_scope.specs.Order.{place, behind, is_loop, AreOrdered}
 use Rattle.luf_scope.proofs.Ordered.{all_given, pairs_given}
@@ -12,7 +13,7 @@ use Rattle.luf_goto.specs.declared.holders.Extent.{Extent}
 use Rattle.luf_goto.specs.declared.holders.Spot.{Spot}
 use Rattle.luf_goto.specs.inner.Holders.{holds, last_holding, one_higher}
 use Rattle.luf_goto.specs.inner.Sites.{IsInOrder, home_of, stop_at, function_extent}
-use Rattle.luf_goto.proofs.Lists.{rising_pairs, rising_map, map_through}
+use Rattle.luf_goto.proofs.Lists.{given_more, rising_pairs, rising_map, map_through}
 
 module _ (os : List Occurrence) (lies : IsInOrder os) where
   pub places_rise : AllPairs (λ u v. place u ≤ place v) os
@@ -48,3 +49,17 @@ same_function p n (_ ∷ os) = same_function p n os
 
 pub homes_found : (os : List Occurrence) → map (λ s. one_higher (last_holding (filter_map function_extent os) s)) (map stop_at os) ≡ map (λ o. home_of os (place o)) os
 homes_found os = map_through stop_at (λ s. one_higher (last_holding (filter_map function_extent os) s)) (λ o. home_of os (place o)) (λ o. ap one_higher (same_function (place o) 0 os)) os
+
+-- a loop that adds what each occurrence says, with the function of its place: one step
+pub row_more :
+    {Y : Type 0} (h : ℕ → Occurrence → Option Y) (os : List Occurrence) (homes : List ℕ) (i home : ℕ) (o : Occurrence) (old new : List Y)
+    → homes ≡ map (λ o. home_of os (place o)) os → i < length os → o ≡ get_or os i o → home ≡ get_or homes i home
+    → new ≡ old ++ option_to_list (h home o) → old ≡ filter_map (λ o. h (home_of os (place o)) o) (take i os)
+    → new ≡ filter_map (λ o. h (home_of os (place o)) o) (take (i + 1) os)
+row_more h os homes i home o old new all inside is at added before =
+    let one : home ≡ home_of os (place o) =
+        at ∙ ap (λ hs. get_or hs i home) all ∙ get_or-map (λ x. home_of os (place x)) os i o home inside ∙ ap (λ x. home_of os (place x)) (sym is) in
+    added
+    ∙ ap (λ x. x ++ option_to_list (h home o)) before
+    ∙ ap (λ x. filter_map (λ y. h (home_of os (place y)) y) (take i os) ++ option_to_list (h x o)) one
+    ∙ sym (given_more (λ x. h (home_of os (place x)) x) os i o inside is)
