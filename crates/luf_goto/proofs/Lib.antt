@@ -1,3 +1,4 @@
 pub mod Lists
+pub mod Naming
 pub mod Places
 pub mod Trails

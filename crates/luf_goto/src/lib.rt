@@ -2,6 +2,7 @@
 #![tactic(auto)]
 
 mod holders;
+mod names;
 mod sites;
 
 use luf_memory::Memory;
