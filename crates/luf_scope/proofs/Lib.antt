@@ -4,3 +4,5 @@ pub mod TreeReads
 pub mod Solid
 pub mod Targets
 pub mod Lying
+pub mod Places
+pub mod Ordered

@@ -2,5 +2,6 @@ pub mod Fault
 pub mod Local
 pub mod Jump
 pub mod Occurrences
+pub mod Order
 pub mod Role
 pub mod inner

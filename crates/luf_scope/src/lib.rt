@@ -5,12 +5,14 @@ mod adding;
 mod binder;
 mod fault;
 mod jump;
+mod laws;
 mod occurrence;
 mod reading;
 
 pub use binder::{Binder, BinderKind, Role};
 pub use fault::{ScopeBad, ScopeErr, ScopeWhat, first_of};
 pub use jump::JumpRole;
+pub use laws::occurrences_are_ordered;
 pub use luf_memory::Memory;
 pub use occurrence::Occurrence;
 pub use reading::occurrences;

@@ -1,5 +1,10 @@
 -- How the occurrences of a chunk lie: by their places, and of what is declared the scopes.
-use Rattle.std.specs.Prelude.{◌≡◌, ℕ, ◌+◌, ◌<◌, ◌≤◌, ◌⊎◌, Bool, true, false, Option, Some, None, List, All, AllPairs}
+use Rattle.std.specs.Prelude.{◌≡◌, ℕ, ◌+◌, ◌<◌, ◌≤◌, ◌⊎◌, Bool, true, false, Option, Some, None, List, length, All, AllPairs}
+use Rattle.luf_lex.specs.declared.token.Tok.{Tok}
+use Rattle.luf_tree.specs.declared.tree.Chunk.{Chunk}
+use Rattle.luf_tree.specs.Grammar.{IsChunk}
+use Rattle.luf_tree.specs.SyntaxOf.{syntax_of}
+use Rattle.luf_scope.specs.Occurrences.{occurrences_in_block}
 use Rattle.luf_scope.specs.declared.occurrence.Occurrence.{Occurrence}
 use Rattle.luf_scope.specs.declared.occurrence.Occurrence.TheVariants.{Local, LocalFunction, Parameter, ImplicitSelf, LoopVariable, Reads, Assigns, Field, Varargs, Function, Loop, Label, Goto, Break}
 
@@ -76,6 +81,7 @@ pub record Follows (u v : Occurrence) : Type 0 where
 
 -- the scope of what is declared in a part that ends at e, in a block that ends at c
 pub record Opens (e c : ℕ) (u : Occurrence) : Type 0 where
+  pub stands : place u < behind u
   pub after : place u < from_of u
   pub within : from_of u ≤ e
   pub forward : from_of u ≤ to_of u
@@ -89,8 +95,12 @@ pub record Within (a e c : ℕ) (u : Occurrence) : Type 0 where
   pub opens : declares u ≡ true → Opens e c u
 
 -- the occurrences of a part from a to e, in a block that ends at c
-pub record Lie (a e c : ℕ) (os : List Occurrence) : Type 0 where
+pub record AreOrdered (a e c : ℕ) (os : List Occurrence) : Type 0 where
   pub on : a ≤ e
   pub up_to : e ≤ c
   pub pairs : AllPairs Follows os
   pub within : All (Within a e c) os
+
+-- so lies all that a chunk says
+abbrev pub OccurrencesAreOrdered : Type 0
+OccurrencesAreOrdered = (toks : List Tok) (c : Chunk) → IsChunk toks c → AreOrdered 0 (length toks) (length toks) (occurrences_in_block (syntax_of c))
