@@ -8,7 +8,7 @@ use Rattle.luf_scope.specs.declared.occurrence.Occurrence.{Occurrence}
 use Rattle.luf_scope.specs.declared.occurrence.Occurrence.TheVariants.{Local, LocalFunction, Parameter, ImplicitSelf, LoopVariable}
 use Rattle.luf_scope.specs.Local.{Spelling, LocalVariable, declared_by, locals_of}
 use Rattle.luf_scope.proofs.Lying.{pairs_head, pairs_tail}
-use Rattle.luf_scope.specs.Order.{place, behind, declares, from_of, to_of, AreNested, Follows, Opens, Within, AreOrdered}
+use Rattle.luf_scope.specs.Order.{place, behind, declares, from_of, to_of, is_loop, is_label, StandsInBlock, AreNested, Follows, Opens, Within, AreOrdered}
 
 module _ (a e c : ℕ) (os : List Occurrence) (lies : AreOrdered a e c os) where
   -- of two, the earlier one
@@ -20,7 +20,13 @@ module _ (a e c : ℕ) (os : List Occurrence) (lies : AreOrdered a e c os) where
 
   -- of one
   pub stands_in : (i : ℕ) (d : Occurrence) → i < length os → (a ≤ place (get_or os i d)) × (place (get_or os i d) ≤ behind (get_or os i d)) × (behind (get_or os i d) ≤ e)
-  stands_in i d within = let w = lies.within i d within in (w.low, w.long, w.high)
+  stands_in i d within = let w = lies.within i d within in (w.low, w.own.long, w.high)
+
+  pub stands_at : (i : ℕ) (d : Occurrence) → i < length os → is_loop (get_or os i d) ≡ false → place (get_or os i d) < behind (get_or os i d)
+  stands_at i d within = (lies.within i d within).own.some
+
+  pub stands_in_block : (i : ℕ) (d : Occurrence) → i < length os → is_label (get_or os i d) ≡ true → StandsInBlock (get_or os i d)
+  stands_in_block i d within = (lies.within i d within).own.block
 
   pub opens_at : (i : ℕ) (d : Occurrence) → i < length os → declares (get_or os i d) ≡ true → Opens e c (get_or os i d)
   opens_at i d within is = (lies.within i d within).opens is
@@ -54,6 +60,7 @@ pairs_given R S h each (x ∷ xs) pairs =
 
 pub record IsDeclaredBy (u : Occurrence) (v : LocalVariable) : Type 0 where
   pub is : declares u ≡ true
+  pub no_loop : is_loop u ≡ false
   pub token : v.token ≡ place u
   pub from : v.from ≡ from_of u
   pub to : v.to ≡ to_of u
@@ -61,16 +68,16 @@ pub record IsDeclaredBy (u : Occurrence) (v : LocalVariable) : Type 0 where
 field_of : (f : LocalVariable → ℕ) (a b : LocalVariable) → Some a ≡ Some b → f b ≡ f a
 field_of f a b is = sym (ap (λ o. option_map_or f o 0) is)
 
-of_local : (u : Occurrence) (a v : LocalVariable) → declares u ≡ true → a.token ≡ place u → a.from ≡ from_of u → a.to ≡ to_of u → Some a ≡ Some v → IsDeclaredBy u v
-of_local u a v is token from to same =
-    record { is = is; token = field_of (λ x. x.token) a v same ∙ token; from = field_of (λ x. x.from) a v same ∙ from; to = field_of (λ x. x.to) a v same ∙ to }
+of_local : (u : Occurrence) (a v : LocalVariable) → declares u ≡ true → is_loop u ≡ false → a.token ≡ place u → a.from ≡ from_of u → a.to ≡ to_of u → Some a ≡ Some v → IsDeclaredBy u v
+of_local u a v is no_loop token from to same =
+    record { is = is; no_loop = no_loop; token = field_of (λ x. x.token) a v same ∙ token; from = field_of (λ x. x.from) a v same ∙ from; to = field_of (λ x. x.to) a v same ∙ to }
 
 pub declared_is : (spelled : Spelling) (u : Occurrence) (v : LocalVariable) → declared_by spelled u ≡ Some v → IsDeclaredBy u v
-declared_is spelled (Local name attribute from to) v is = of_local (Local name attribute from to) _ v refl refl refl refl is
-declared_is spelled (LocalFunction name from to) v is = of_local (LocalFunction name from to) _ v refl refl refl refl is
-declared_is spelled (Parameter name from to) v is = of_local (Parameter name from to) _ v refl refl refl refl is
-declared_is spelled (ImplicitSelf colon from to) v is = of_local (ImplicitSelf colon from to) _ v refl refl refl refl is
-declared_is spelled (LoopVariable name from to) v is = of_local (LoopVariable name from to) _ v refl refl refl refl is
+declared_is spelled (Local name attribute from to) v is = of_local (Local name attribute from to) _ v refl refl refl refl refl is
+declared_is spelled (LocalFunction name from to) v is = of_local (LocalFunction name from to) _ v refl refl refl refl refl is
+declared_is spelled (Parameter name from to) v is = of_local (Parameter name from to) _ v refl refl refl refl refl is
+declared_is spelled (ImplicitSelf colon from to) v is = of_local (ImplicitSelf colon from to) _ v refl refl refl refl refl is
+declared_is spelled (LoopVariable name from to) v is = of_local (LoopVariable name from to) _ v refl refl refl refl refl is
 declared_is spelled _ v is = absurd cc
 
 -- of a local variable: it is declared before it is active
@@ -93,13 +100,13 @@ pub locals_opened : (a e c : ℕ) (os : List Occurrence) (spelled : Spelling) �
 locals_opened a e c os spelled lies = all_given (Within a e c) (IsOpened e) (declared_by spelled) (λ u v w given. let d = declared_is spelled u v given in opened e c u v (w.opens d.is) d) os lies.within
 
 -- what both of two occurrences tell
-record Both (e c : ℕ) (u v : Occurrence) : Type 0 where
+record Both (u v : Occurrence) : Type 0 where
   follows : Follows u v
-  opens : declares u ≡ true → Opens e c u
+  stands : is_loop u ≡ false → place u < behind u
 
-nest : (e c : ℕ) (x y : Occurrence) (u v : LocalVariable) → Both e c x y → IsDeclaredBy x u → IsDeclaredBy y v → LocalsNest u v
-nest e c x y u v b d f =
-    let later = b.follows.later in let nested = b.follows.nested d.is f.is in let stands = (b.opens d.is).stands in
+nest : (x y : Occurrence) (u v : LocalVariable) → Both x y → IsDeclaredBy x u → IsDeclaredBy y v → LocalsNest u v
+nest x y u v b d f =
+    let later = b.follows.later in let nested = b.follows.nested d.is f.is in let stands = b.stands d.no_loop in
     let ut = d.token in let uf = d.from in let ue = d.to in let vt = f.token in let vf = f.from in let ve = f.to in
     record {
       later = omega (arith, later, stands, ut, vt);
@@ -109,5 +116,5 @@ nest e c x y u v b d f =
 
 pub locals_nest : (a e c : ℕ) (os : List Occurrence) (spelled : Spelling) → AreOrdered a e c os → AllPairs LocalsNest (locals_of spelled os)
 locals_nest a e c os spelled lies =
-    pairs_given (Both e c) LocalsNest (declared_by spelled) (λ x y u v b one two. nest e c x y u v b (declared_is spelled x u one) (declared_is spelled y v two)) os
-      (λ i j d below within. record { follows = lies.pairs i j d below within; opens = (lies.within i d (omega (arith, below, within))).opens })
+    pairs_given Both LocalsNest (declared_by spelled) (λ x y u v b one two. nest x y u v b (declared_is spelled x u one) (declared_is spelled y v two)) os
+      (λ i j d below within. record { follows = lies.pairs i j d below within; stands = (lies.within i d (omega (arith, below, within))).own.some })
