@@ -6,3 +6,5 @@ pub mod Targets
 pub mod Lying
 pub mod Places
 pub mod Ordered
+pub mod Holding
+pub mod Blocks

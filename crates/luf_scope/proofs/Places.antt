@@ -130,11 +130,11 @@ path_lies None (g.path_more {i = i} t u (g.path_more {i = k} v w d)) = says (Rea
 path_lies (Some name) (g.path_more {i = i} t u (g.path_end {i = k} v)) = says (Reads i) refl (refl, refl) refl refl t ⨾ skip u (says (occurrence.Field k) refl (refl, refl) refl refl v)
 path_lies (Some name) (g.path_more {i = i} t u (g.path_more {i = k} v w d)) = says (Reads i) refl (refl, refl) refl refl t ⨾ skip u (fields_lie (g.path_more {i = k} v w d))
 
-semicolon_on : {toks : List Tok} {i j : ℕ} → IsSemicolon toks i j → i ≤ j
+pub semicolon_on : {toks : List Tok} {i j : ℕ} → IsSemicolon toks i j → i ≤ j
 semicolon_on g.no_semicolon = omega arith
 semicolon_on (g.a_semicolon t) = let next = t.next in omega arith
 
-abbrev body_at : ℕ → ℕ → List ℕ → Bool → Block → FuncBody
+abbrev pub body_at : ℕ → ℕ → List ℕ → Bool → Block → FuncBody
 body_at i p params vararg body = roll-FuncBody (record { from = i; to = p; params = params; vararg = vararg; body = body })
 
 block_span : {toks : List Tok} {i j : ℕ} {b : Block} → IsBlock toks i j b → span_of (syntax_of_block b) ≡ from_to i j
@@ -386,3 +386,27 @@ mutual
   step_lies : {toks : List Tok} {i j : ℕ} {step : Option Expr} → IsForStep toks i j step → AreOrdered i j j (occurrences_in_optional_expression (optional_expression_of (option_map syntax_of_expr step)))
   step_lies g.no_for_step = none
   step_lies (g.a_for_step t d) = skip t (expr_lies d)
+
+-- ---- that a part ends at its begin or behind it
+
+pub declared_on : {toks : List Tok} {i j : ℕ} {declared : List Declared} → AreDeclared toks i j declared → i ≤ j
+declared_on d = row_on (declared_row 0 0 d)
+
+pub names_on : {toks : List Tok} {i j : ℕ} {names : List ℕ} → AreNames toks i j names → i ≤ j
+names_on d = row_on (loop_row 0 0 d)
+
+pub parameters_on : {toks : List Tok} {i j : ℕ} {names : List ℕ} {vararg : Bool} → AreParams toks i j names vararg → i ≤ j
+parameters_on d = row_on (parameters_row 0 0 d)
+
+pub path_on : {toks : List Tok} {i j : ℕ} {path : List ℕ} → IsPath toks i j path → i ≤ j
+path_on d = (fields_lie d).on
+
+pub method_on : {toks : List Tok} {i j : ℕ} {method : Option ℕ} → IsMethod toks i j method → i ≤ j
+method_on g.no_method = omega arith
+method_on (g.a_method t u) = let colon = t.next in let name = u.next in omega arith
+
+pub stat_on : {toks : List Tok} {i j : ℕ} {s : Stat} → IsStat toks i j s → i ≤ j
+stat_on {i = i} {j = j} d = (stat_lies (loose j) true d (fits_loose i j)).on
+
+pub stats_on : {toks : List Tok} {i j : ℕ} {stats : List Stat} → AreStats toks i j stats → i ≤ j
+stats_on {i = i} {j = j} d = (stats_lie (loose j) d (fits_loose i j)).on

@@ -12,7 +12,7 @@ mod reading;
 pub use binder::{Binder, BinderKind, Role};
 pub use fault::{ScopeBad, ScopeErr, ScopeWhat, first_of};
 pub use jump::JumpRole;
-pub use laws::occurrences_are_ordered;
+pub use laws::{label_blocks_are_nested, occurrences_are_ordered};
 pub use luf_memory::Memory;
 pub use occurrence::Occurrence;
 pub use reading::occurrences;
