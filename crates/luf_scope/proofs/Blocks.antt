@@ -1,7 +1,5 @@
 -- How the blocks of the labels of a chunk lie: those of each part, by the grammar.
-use Rattle.std.proofs.Common.{◌≡◌, ℕ, ◌+◌, ◌-◌, ◌<◌, ◌≤◌, ◌⊎◌, Bool, true, false, not, ◌&&◌, Option, Some, None, List, [], ◌∷◌, ◌++◌, All, map, refl, sym, ap, ◌∙◌, subst, arith, inl, inr, append_assoc}
-use Rattle.std.proofs.lemmas.List.Elements.{All-append, All-weaker, All-cons}
-use Rattle.std.proofs.lemmas.List.{append-nil}
+use Rattle.std.proofs.Common.{◌≡◌, ℕ, ◌-◌, ◌≤◌, Bool, true, false, not, ◌&&◌, Option, Some, None, List, [], ◌∷◌, ◌++◌, map, refl, sym, ap, ◌∙◌, subst, arith, inl, inr}
 use Rattle.luf_lex.specs.declared.token.Tok.{Tok}
 use Rattle.luf_tree.specs.declared.tree.Declared.{Declared}
 use Rattle.luf_tree.specs.declared.tree.Expr.{Expr}
@@ -12,16 +10,15 @@ use Rattle.luf_tree.specs.declared.tree.Args.{Args}
 use Rattle.luf_tree.specs.declared.tree.Step.{Step}
 use Rattle.luf_tree.specs.declared.tree.Suffix.{Suffix}
 use Rattle.luf_tree.specs.declared.tree.Field.{Field}
-use Rattle.luf_tree.specs.declared.tree.FuncBody.{FuncBody, roll-FuncBody}
-use Rattle.luf_tree.specs.declared.tree.Chunk.{Chunk}
+use Rattle.luf_tree.specs.declared.tree.FuncBody.{FuncBody}
 use Rattle.luf_tree.specs.TokenSyntax.{from_to}
 use Rattle.luf_tree.specs.TokenSyntax as tokens
-use Rattle.luf_tree.specs.SyntaxOf.{declared_of, first_of_path, rest_of_path, expressions_of, operations_of, suffixes_of, fields_of, statements_of, arms_of, optional_expression_of, optional_block_of, syntax_of, syntax_of_expr, syntax_of_field, syntax_of_suffix, syntax_of_step, syntax_of_stat, syntax_of_arm, syntax_of_block, syntax_of_body, syntax_of_args}
+use Rattle.luf_tree.specs.SyntaxOf.{declared_of, first_of_path, rest_of_path, expressions_of, operations_of, suffixes_of, fields_of, statements_of, arms_of, optional_expression_of, optional_block_of, syntax_of_expr, syntax_of_field, syntax_of_suffix, syntax_of_step, syntax_of_stat, syntax_of_arm, syntax_of_block, syntax_of_body, syntax_of_args}
 use Rattle.luf_tree.specs.Grammar as g
 use Rattle.luf_tree.specs.Grammar.{IsToken, IsString, AreNames, AreParams, IsAttribute, AreDeclared, IsPath, IsMethod, IsSemicolon, IsExpr, AreSteps, IsOperand, IsSimple, IsPrefix, IsVariable, IsCall, IsParen, IsHead, AreSuffixes, IsSuffix, IsArgs, AreExprs, IsTable, AreFields, IsField, IsFuncBody, IsBlock, AreStats, IsReturn, IsStat, AreTargets, IsArm, AreArms, IsElse, IsForStep, IsChunk}
 use Rattle.luf_tree.proofs.SyntaxEquations as eq
 use Rattle.std.specs.Option.{option_map}
-use Rattle.luf_scope.specs.Occurrences.{Holder, span_of, body_of, span_of_body, loop_of, declared_locals, loop_variables_of, parameters_of, path_of, method_of, target_of, occurrences_in_expression, occurrences_in_optional_expression, occurrences_in_expressions, occurrences_in_targets, occurrences_in_operation, occurrences_in_operations, occurrences_in_suffix, occurrences_in_suffixes, occurrences_in_field, occurrences_in_fields, occurrences_in_statement, occurrences_in_statements, occurrences_in_arm, occurrences_in_arms, occurrences_in_block, occurrences_in_repeated, occurrences_in_optional_block, occurrences_in_body, occurrences_in_arguments, are_void}
+use Rattle.luf_scope.specs.Occurrences.{Holder, span_of, body_of, span_of_body, loop_of, declared_locals, parameters_of, path_of, method_of, target_of, occurrences_in_expression, occurrences_in_optional_expression, occurrences_in_expressions, occurrences_in_targets, occurrences_in_operation, occurrences_in_operations, occurrences_in_suffix, occurrences_in_suffixes, occurrences_in_field, occurrences_in_fields, occurrences_in_statement, occurrences_in_statements, occurrences_in_arm, occurrences_in_arms, occurrences_in_block, occurrences_in_repeated, occurrences_in_optional_block, occurrences_in_body, occurrences_in_arguments, are_void}
 use Rattle.luf_scope.specs.declared.occurrence.Occurrence.{Occurrence}
 use Rattle.luf_scope.specs.declared.occurrence.Occurrence.TheVariants as occurrence
 use Rattle.luf_scope.specs.declared.occurrence.Occurrence.TheVariants.{Local, LocalFunction, Parameter, ImplicitSelf, LoopVariable, Reads, Assigns, Varargs, Function, Loop, Label, Goto, Break}
@@ -101,8 +98,8 @@ body_round {i = i} {j = j} {k = k} {l = l} {o = o} {p = p} {params = params} {va
     let ends = v.next in
     let s : tokens.Span = span_of (syntax_of_block body) in
     by (ap occurrences_in_body (eq.body_of_syntax i p params vararg body))
-      (function_round i l o p vararg (parameters_of s params ++ occurrences_in_block (syntax_of_block body)) (omega arith) (omega arith)
-        (names_lie (λ name. Parameter name s.from s.to) (λ _. refl) (λ _. refl) (omega arith) params ⨾ block))
+    (function_round i l o p vararg (parameters_of s params ++ occurrences_in_block (syntax_of_block body)) (omega arith) (omega arith)
+    (names_lie (λ name. Parameter name s.from s.to) (λ _. refl) (λ _. refl) (omega arith) params ⨾ block))
 
 -- a part that a block holds
 in_block : {f t a e : ℕ} {os : List Occurrence} → f ≤ a → e ≤ t → Blocks a e a e os → Blocks f t a e os
@@ -211,7 +208,7 @@ mutual
       let on = stat_on d in
       let above = stats_on more in
       joins h.span.from h.span.to i m e (occurrences_in_statement h (are_void (statements_of (map syntax_of_stat rest))) (syntax_of_stat s)) (occurrences_in_statements h (statements_of (map syntax_of_stat rest)))
-          (stat_lies h (are_void (statements_of (map syntax_of_stat rest))) d low (omega (arith, above, up))) (stats_lie h more (omega (arith, low, on)) up)
+      (stat_lies h (are_void (statements_of (map syntax_of_stat rest))) d low (omega (arith, above, up))) (stats_lie h more (omega (arith, low, on)) up)
 
   return_lies : {toks : List Tok} {i j : ℕ} {s : Stat} (h : Holder) (ended : Bool) → IsReturn toks i j s → h.span.from ≤ i → j ≤ h.span.to → Blocks h.span.from h.span.to i j (occurrences_in_statement h ended (syntax_of_stat s))
   return_lies h ended (g.return_nothing t s) low up = by (ap (occurrences_in_statement h ended) (eq.return_syntax _ _ _)) (in_block low up (longer (semicolon_on s) (lone t)))
@@ -231,19 +228,19 @@ mutual
   stat_lies h ended (g.for_stat {j = j} {body = body} t n a x c y z d b e) low up =
       let s : tokens.Span = span_of (syntax_of_block body) in
       by (ap (occurrences_in_statement h ended) (eq.for_syntax _ _ _ _ _ _ _))
-         (in_block low up (skip t (end
-           ((((says (LoopVariable j s.from s.to) refl refl n ⨾ skip a (expr_lies x)) ⨾ skip c (expr_lies y)) ⨾ step_lies z) ⨾ skip d (loop_round s (block_lies b))) e)))
+      (in_block low up (skip t (end
+      ((((says (LoopVariable j s.from s.to) refl refl n ⨾ skip a (expr_lies x)) ⨾ skip c (expr_lies y)) ⨾ step_lies z) ⨾ skip d (loop_round s (block_lies b))) e)))
   stat_lies h ended (g.for_in_stat {names = names} {body = body} t n a x d b e) low up =
       let s : tokens.Span = span_of (syntax_of_block body) in
       by (ap (occurrences_in_statement h ended) (eq.for_in_syntax _ _ _ _ _))
-         (in_block low up (skip t (end
-           ((names_lie (λ name. LoopVariable name s.from s.to) (λ _. refl) (λ _. refl) (names_on n) names ⨾ skip a (exprs_lie x)) ⨾ skip d (loop_round s (block_lies b))) e)))
+      (in_block low up (skip t (end
+      ((names_lie (λ name. LoopVariable name s.from s.to) (λ _. refl) (λ _. refl) (names_on n) names ⨾ skip a (exprs_lie x)) ⨾ skip d (loop_round s (block_lies b))) e)))
   stat_lies h ended (g.function_stat {path = path} {method = method} {f = f} t p m d) low up =
       by (ap (occurrences_in_statement h ended) (eq.function_stat_syntax _ _ _ _ _))
-         (in_block low up (skip t ((path_lies path method (path_on p) ⨾ method_lies (span_of (body_of (syntax_of_body f))) method (method_on m)) ⨾ body_lies d)))
+      (in_block low up (skip t ((path_lies path method (path_on p) ⨾ method_lies (span_of (body_of (syntax_of_body f))) method (method_on m)) ⨾ body_lies d)))
   stat_lies h ended (g.local_function_stat {k = k} {f = f} t u n d) low up =
       by (ap (occurrences_in_statement h ended) (eq.local_function_syntax _ _ _ _))
-         (in_block low up (skip t (skip u (says (LocalFunction k (span_of_body (syntax_of_body f)).from h.end) refl refl n ⨾ body_lies d))))
+      (in_block low up (skip t (skip u (says (LocalFunction k (span_of_body (syntax_of_body f)).from h.end) refl refl n ⨾ body_lies d))))
   stat_lies h ended (g.label_stat {i = i} {j = j} {l = l} t n u) low up =
       let a = t.next in let b = n.next in let c = u.next in
       by (ap (occurrences_in_statement h ended) (eq.label_syntax _ _ _)) (label_alone h.span.from h.span.to i l j (not h.until && ended) low (omega arith) (omega arith) up)

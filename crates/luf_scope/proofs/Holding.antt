@@ -1,5 +1,5 @@
 -- How the blocks of the labels of a part lie, from how those of its parts do.
-use Rattle.std.proofs.Common.{◌≡◌, ℕ, zero, suc, ◌+◌, ◌<◌, ◌≤◌, ◌⊎◌, Bool, true, false, List, [], ◌∷◌, ◌++◌, All, length, get_or, map, refl, sym, ap, ◌∙◌, subst, arith, inl, inr, ⊎_elim, true≢false}
+use Rattle.std.proofs.Common.{◌≡◌, ℕ, ◌<◌, ◌≤◌, ◌⊎◌, Bool, true, false, List, [], ◌∷◌, ◌++◌, All, get_or, refl, sym, ◌∙◌, arith, inl, inr, ⊎_elim, true≢false}
 use Rattle.std.proofs.lemmas.List.Elements.{All-cons, All-nil, All-append, All-weaker}
 use Rattle.luf_scope.specs.declared.occurrence.Occurrence.{Occurrence}
 use Rattle.luf_scope.specs.declared.occurrence.Occurrence.TheVariants.{Function, Label}
@@ -33,8 +33,8 @@ square_append : {X : Type 0} (R : X → X → Type 0) (xs ys : List X) → All (
     → All (λ x. All (R x) (xs ++ ys)) (xs ++ ys)
 square_append R xs ys first second across =
     All-append (λ x. All (R x) (xs ++ ys)) xs ys
-      (λ k d within. All-append (R (get_or xs k d)) xs ys (first k d within) (λ j e inside. (across k d within j e inside).0))
-      (λ k d within. All-append (R (get_or ys k d)) xs ys (λ j e inside. (across j e inside k d within).1) (second k d within))
+    (λ k d within. All-append (R (get_or xs k d)) xs ys (first k d within) (λ j e inside. (across k d within j e inside).0))
+    (λ k d within. All-append (R (get_or ys k d)) xs ys (λ j e inside. (across j e inside k d within).1) (second k d within))
 
 -- ---- larger parts
 
@@ -83,20 +83,20 @@ out f t a e os low high l =
 label_within : (f t a e : ℕ) (u : Occurrence) → f ≤ a → e ≤ t → LabelIn f t a e u → (f ≤ block_from u) × (block_to u ≤ t)
 label_within f t a e u low high w =
     ⊎_elim (λ (h : (block_from u ≡ f) × (block_to u ≡ t)). let x = h.0 in let y = h.1 in (omega (arith, x), omega (arith, y)))
-      (λ (h : (a ≤ block_from u) × (block_to u ≤ e)). let x = h.0 in let y = h.1 in (omega (arith, x), omega (arith, y))) w.block
+    (λ (h : (a ≤ block_from u) × (block_to u ≤ e)). let x = h.0 in let y = h.1 in (omega (arith, x), omega (arith, y))) w.block
 
 -- a label, and what is behind its part
 later_nested : (f t a m e : ℕ) (u v : Occurrence) → f ≤ a → a ≤ m → m ≤ e → e ≤ t → HoldsIn f t a m u → HoldsIn f t m e v → AreNestedBlocks u v
 later_nested f t a m e u v low on more high hu hv =
     record {
       block = λ lu lv from to.
-        let uw = hu.label lu in let vw = hv.label lv in let k = uw.high in let reach = label_within f t a m u low (omega arith) uw in let x = reach.0 in let y = reach.1 in
-        ⊎_elim (λ (h : (block_from v ≡ f) × (block_to v ≡ t)). let p = h.0 in let q = h.1 in (omega (arith, p, x), omega (arith, q, y)))
+          let uw = hu.label lu in let vw = hv.label lv in let k = uw.high in let reach = label_within f t a m u low (omega arith) uw in let x = reach.0 in let y = reach.1 in
+          ⊎_elim (λ (h : (block_from v ≡ f) × (block_to v ≡ t)). let p = h.0 in let q = h.1 in (omega (arith, p, x), omega (arith, q, y)))
           (λ (h : (m ≤ block_from v) × (block_to v ≤ e)). let p = h.0 in absurd (omega (arith, p, k, from))) vw.block;
       function = λ lu fv from to. let k = (hu.label lu).high in let p = (hv.function fv).low in absurd (omega (arith, p, k, from));
       apart = λ lu lv below.
-        let uw = hu.label lu in let vw = hv.label lv in let k = uw.high in let s = uw.own.begun in let reach = label_within f t a m u low (omega arith) uw in let y = reach.1 in
-        ⊎_elim (λ (h : (block_from v ≡ f) × (block_to v ≡ t)). let q = h.1 in inl (omega (arith, q, y)))
+          let uw = hu.label lu in let vw = hv.label lv in let k = uw.high in let s = uw.own.begun in let reach = label_within f t a m u low (omega arith) uw in let y = reach.1 in
+          ⊎_elim (λ (h : (block_from v ≡ f) × (block_to v ≡ t)). let q = h.1 in inl (omega (arith, q, y)))
           (λ (h : (m ≤ block_from v) × (block_to v ≤ e)). let p = h.0 in absurd (omega (arith, p, k, s, below))) vw.block;
     }
 
@@ -105,16 +105,16 @@ earlier_nested : (f t a m e : ℕ) (u v : Occurrence) → f ≤ a → a ≤ m �
 earlier_nested f t a m e u v low on more high hu hv =
     record {
       block = λ lv lu from to.
-        let uw = hu.label lu in let vw = hv.label lv in let k = vw.low in let reach = label_within f t m e v (omega arith) high vw in let x = reach.0 in let y = reach.1 in
-        ⊎_elim (λ (h : (block_from u ≡ f) × (block_to u ≡ t)). let p = h.0 in let q = h.1 in (omega (arith, p, x), omega (arith, q, y)))
+          let uw = hu.label lu in let vw = hv.label lv in let k = vw.low in let reach = label_within f t m e v (omega arith) high vw in let x = reach.0 in let y = reach.1 in
+          ⊎_elim (λ (h : (block_from u ≡ f) × (block_to u ≡ t)). let p = h.0 in let q = h.1 in (omega (arith, p, x), omega (arith, q, y)))
           (λ (h : (a ≤ block_from u) × (block_to u ≤ m)). let q = h.1 in absurd (omega (arith, q, k, to))) uw.block;
       function = λ lv fu from to. let k = (hv.label lv).low in let q = (hu.function fu).high in absurd (omega (arith, q, k, to));
       apart = λ lv lu below.
-        let uw = hu.label lu in let vw = hv.label lv in let reach = label_within f t m e v (omega arith) high vw in let y = reach.1 in
-        ⊎_elim (λ (h : (block_from u ≡ f) × (block_to u ≡ t)). let q = h.1 in inl (omega (arith, q, y)))
+          let uw = hu.label lu in let vw = hv.label lv in let reach = label_within f t m e v (omega arith) high vw in let y = reach.1 in
+          ⊎_elim (λ (h : (block_from u ≡ f) × (block_to u ≡ t)). let q = h.1 in inl (omega (arith, q, y)))
           (λ (h : (a ≤ block_from u) × (block_to u ≤ m)). let p = h.0 in let q = h.1 in
-            ⊎_elim (λ (g : (block_from v ≡ f) × (block_to v ≡ t)). let r = g.0 in absurd (omega (arith, p, r, low, below)))
-              (λ (g : (m ≤ block_from v) × (block_to v ≤ e)). let r = g.0 in inr (omega (arith, q, r))) vw.block) uw.block;
+          ⊎_elim (λ (g : (block_from v ≡ f) × (block_to v ≡ t)). let r = g.0 in absurd (omega (arith, p, r, low, below)))
+          (λ (g : (m ≤ block_from v) × (block_to v ≤ e)). let r = g.0 in inr (omega (arith, q, r))) vw.block) uw.block;
     }
 
 pub joins : (f t a m e : ℕ) (xs ys : List Occurrence) → Blocks f t a m xs → Blocks f t m e ys → Blocks f t a e (xs ++ ys)
@@ -125,9 +125,10 @@ joins f t a m e xs ys first second =
       on = omega (arith, on, more);
       high = high;
       each = All-append (HoldsIn f t a e) xs ys (wider f t a a m e xs low (omega arith) more high first).each (wider f t a m e e ys low on (omega arith) high second).each;
-      pairs = square_append AreNestedBlocks xs ys first.pairs second.pairs (λ k d within j i inside.
-          (later_nested f t a m e (get_or xs k d) (get_or ys j i) low on more high (first.each k d within) (second.each j i inside),
-           earlier_nested f t a m e (get_or xs k d) (get_or ys j i) low on more high (first.each k d within) (second.each j i inside)));
+      pairs = square_append AreNestedBlocks xs ys first.pairs second.pairs (λ k d within j i inside. (
+        later_nested f t a m e (get_or xs k d) (get_or ys j i) low on more high (first.each k d within) (second.each j i inside),
+        earlier_nested f t a m e (get_or xs k d) (get_or ys j i) low on more high (first.each k d within) (second.each j i inside),
+      ));
     }
 
 pub nothing : (f t a e : ℕ) → f ≤ a → a ≤ e → e ≤ t → Blocks f t a e []
@@ -191,8 +192,8 @@ function_round i l o p vararg os behind up body =
           (square_one (Function i p vararg) (record { block = λ is _ _ _. absurd cc; function = λ is _ _ _. absurd cc; apart = λ is _ _. absurd cc }))
           body.pairs
           (All-cons (λ x. All (λ y. AreNestedBlocks x y × AreNestedBlocks y x) os) (Function i p vararg) []
-            (λ k d within. (record { block = λ is _ _ _. absurd cc; function = λ is _ _ _. absurd cc; apart = λ is _ _. absurd cc }, in_function i l o p vararg (get_or os k d) behind up (body.each k d within)))
-            (All-nil (λ x. All (λ y. AreNestedBlocks x y × AreNestedBlocks y x) os)));
+          (λ k d within. (record { block = λ is _ _ _. absurd cc; function = λ is _ _ _. absurd cc; apart = λ is _ _. absurd cc }, in_function i l o p vararg (get_or os k d) behind up (body.each k d within)))
+          (All-nil (λ x. All (λ y. AreNestedBlocks x y × AreNestedBlocks y x) os)));
     }
   where
     in_function : (i l o p : ℕ) (vararg : Bool) (u : Occurrence) → i < l → o ≤ p → HoldsIn l o l o u → AreNestedBlocks u (Function i p vararg)

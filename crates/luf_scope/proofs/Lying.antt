@@ -1,9 +1,9 @@
 -- How what parts say lies, from how what they are made of does.
-use Rattle.std.proofs.Common.{◌≡◌, ℕ, zero, suc, ◌+◌, ◌<◌, ◌≤◌, ◌⊎◌, Bool, true, false, List, [], ◌∷◌, ◌++◌, All, AllPairs, length, get_or, refl, sym, ap, ◌∙◌, subst, arith, inl, inr, ⊎_elim, true≢false}
+use Rattle.std.proofs.Common.{◌≡◌, ℕ, suc, ◌<◌, ◌≤◌, ◌⊎◌, true, false, List, [], ◌∷◌, ◌++◌, All, AllPairs, get_or, sym, ◌∙◌, arith, inl, inr, ⊎_elim, true≢false}
 use Rattle.std.proofs.lemmas.List.Elements.{All-head, All-tail, All-cons, All-nil, All-append, All-weaker}
 use Rattle.std.proofs.lemmas.List.Kept.{AllPairs-cons}
 use Rattle.luf_scope.specs.declared.occurrence.Occurrence.{Occurrence}
-use Rattle.luf_scope.specs.Order.{place, behind, declares, from_of, to_of, is_loop, is_label, StandsInBlock, IsPlaced, AreNested, Follows, Opens, Within, AreOrdered}
+use Rattle.luf_scope.specs.Order.{place, behind, declares, from_of, to_of, is_loop, is_label, IsPlaced, AreNested, Follows, Opens, Within, AreOrdered}
 
 pub pairs_head : {X : Type 0} (R : X → X → Type 0) (x : X) (xs : List X) → AllPairs R (x ∷ xs) → All (R x) xs
 pairs_head R x xs pairs k d within = pairs 0 (suc k) d (omega arith) (omega arith)
@@ -85,7 +85,7 @@ declared_first a m e c u os own low high opens nested rest =
       on = omega arith;
       up_to = rest.up_to;
       pairs = AllPairs-cons Follows u os (λ j q two. let v = rest.within j q two in record { later = let h = v.low in omega (arith, h); nested = λ du dv. nested j q two dv }) rest.pairs;
-      within = All-cons (Within a e c) u os (record { own = own; low = low; high = omega arith; opens = λ du. opens }) (wider a m e e c os (omega arith) (omega arith) rest.up_to rest).within
+      within = All-cons (Within a e c) u os (record { own = own; low = low; high = omega arith; opens = λ du. opens }) (wider a m e e c os (omega arith) (omega arith) rest.up_to rest).within;
     }
 
 -- what is no loop and no label
@@ -127,11 +127,11 @@ row_lies {f} {t} {i} {j} {n} {os = os} (in_row {m = m} {u = u} {us = us} plain l
     let on = row_on rest in
     let below = inner.on in
     declared_first i m f t u (us ++ os) (plain_placed u plain some) low high
-        (record { after = omega (arith, some, high, on, below, up, from); within = omega (arith, from); forward = omega (arith, from, to, last); ends = inl to })
-        (All-append (λ v. declares v ≡ true → AreNested u v) us os
-            (All-weaker (HasScope f t) (λ v. declares v ≡ true → AreNested u v) (λ v is _. same_nested f t u v (from, to) is) us (row_scope rest))
-            (All-weaker (Within j n n) (λ v. declares v ≡ true → AreNested u v) (λ v w dv. inner_nested j n f t u v up last (from, to) w dv) os inner.within))
-        (row_lies rest inner up last)
+    (record { after = omega (arith, some, high, on, below, up, from); within = omega (arith, from); forward = omega (arith, from, to, last); ends = inl to })
+    (All-append (λ v. declares v ≡ true → AreNested u v) us os
+    (All-weaker (HasScope f t) (λ v. declares v ≡ true → AreNested u v) (λ v is _. same_nested f t u v (from, to) is) us (row_scope rest))
+    (All-weaker (Within j n n) (λ v. declares v ≡ true → AreNested u v) (λ v w dv. inner_nested j n f t u v up last (from, to) w dv) os inner.within))
+    (row_lies rest inner up last)
 
 -- one whose scope holds all that is declared behind it
 pub round_first : (a m e f t c : ℕ) (u : Occurrence) (os : List Occurrence) → IsPlain u → a ≤ place u → place u < behind u → behind u ≤ m → m ≤ f → HasScope f t u → f ≤ e → e ≤ t → t ≤ c → (t ≡ c) ⊎ (t ≤ e)
@@ -139,11 +139,11 @@ pub round_first : (a m e f t c : ℕ) (u : Occurrence) (os : List Occurrence) �
 round_first a m e f t c u os plain low some high begins scope up last top ends behind_all inner =
     let uf = scope.0 in let ut = scope.1 in
     declared_first a m e c u os (plain_placed u plain some) low high
-        (record { after = omega (arith, some, high, begins, uf); within = omega (arith, uf, up); forward = omega (arith, uf, ut, up, last); ends = ⊎_elim (λ (h : t ≡ c). inl (ut ∙ h)) (λ (h : t ≤ e). inr (omega (arith, h, ut))) ends })
-        (λ k d two dv. let o = (inner.within k d two).opens dv in let first = behind_all k d two dv in
-            let last_of : to_of (get_or os k d) ≤ e = ⊎_elim (λ (h : to_of (get_or os k d) ≡ e). omega (arith, h)) (λ h. h) o.ends in
-            record { before = λ h. absurd (omega (arith, h, first, uf)); inside = λ h. inl (omega (arith, last_of, last, ut)) })
-        (out m e c os (omega (arith, last, top)) inner)
+    (record { after = omega (arith, some, high, begins, uf); within = omega (arith, uf, up); forward = omega (arith, uf, ut, up, last); ends = ⊎_elim (λ (h : t ≡ c). inl (ut ∙ h)) (λ (h : t ≤ e). inr (omega (arith, h, ut))) ends })
+    (λ k d two dv. let o = (inner.within k d two).opens dv in let first = behind_all k d two dv in
+    let last_of : to_of (get_or os k d) ≤ e = ⊎_elim (λ (h : to_of (get_or os k d) ≡ e). omega (arith, h)) (λ h. h) o.ends in
+    record { before = λ h. absurd (omega (arith, h, first, uf)); inside = λ h. inl (omega (arith, last_of, last, ut)) })
+    (out m e c os (omega (arith, last, top)) inner)
 
 -- what is declared in a part begins behind where the part begins
 pub begin_in : (m e c : ℕ) (os : List Occurrence) → AreOrdered m e c os → All (λ v. declares v ≡ true → m ≤ from_of v) os

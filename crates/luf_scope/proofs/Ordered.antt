@@ -1,5 +1,5 @@
 -- What the order of occurrences tells of them, by their places in the list, and of the local variables among them.
-use Rattle.std.proofs.Common.{◌≡◌, ℕ, zero, suc, ◌+◌, ◌<◌, ◌≤◌, ◌⊎◌, Bool, true, false, Option, Some, None, List, [], ◌∷◌, All, AllPairs, length, get_or, refl, sym, ap, ◌∙◌, subst, arith, inl, inr, ⊎_elim}
+use Rattle.std.proofs.Common.{◌≡◌, ℕ, ◌<◌, ◌≤◌, ◌⊎◌, true, false, Option, Some, None, List, [], ◌∷◌, All, AllPairs, length, get_or, refl, sym, ap, ◌∙◌, arith, inl, inr, ⊎_elim}
 use Rattle.std.specs.List.{filter_map, cons_option}
 use Rattle.std.specs.Option.{option_map_or}
 use Rattle.std.proofs.lemmas.List.Elements.{All-nil, All-cons, All-head, All-tail}
@@ -117,4 +117,4 @@ nest x y u v b d f =
 pub locals_nest : (a e c : ℕ) (os : List Occurrence) (spelled : Spelling) → AreOrdered a e c os → AllPairs LocalsNest (locals_of spelled os)
 locals_nest a e c os spelled lies =
     pairs_given Both LocalsNest (declared_by spelled) (λ x y u v b one two. nest x y u v b (declared_is spelled x u one) (declared_is spelled y v two)) os
-      (λ i j d below within. record { follows = lies.pairs i j d below within; stands = (lies.within i d (omega (arith, below, within))).own.some })
+    (λ i j d below within. record { follows = lies.pairs i j d below within; stands = (lies.within i d (omega (arith, below, within))).own.some })

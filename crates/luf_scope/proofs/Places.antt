@@ -1,5 +1,5 @@
 -- How all that a chunk says lies: each part of it from where it begins to where it ends, by the grammar.
-use Rattle.std.proofs.Common.{◌≡◌, ℕ, ◌+◌, ◌-◌, ◌<◌, ◌≤◌, ◌⊎◌, Bool, true, false, not, ◌&&◌, Option, Some, None, List, [], ◌∷◌, ◌++◌, All, map, refl, sym, ap, ◌∙◌, subst, arith, inl, inr, append_assoc}
+use Rattle.std.proofs.Common.{◌≡◌, ℕ, ◌+◌, ◌-◌, ◌<◌, ◌≤◌, Bool, true, false, not, ◌&&◌, Option, Some, None, List, [], ◌∷◌, ◌++◌, All, map, refl, sym, ap, ◌∙◌, subst, arith, inl, inr, append_assoc}
 use Rattle.std.proofs.lemmas.List.Elements.{All-append, All-weaker, All-cons}
 use Rattle.std.proofs.lemmas.List.{append-nil}
 use Rattle.luf_lex.specs.declared.token.Tok.{Tok}
@@ -13,10 +13,8 @@ use Rattle.luf_tree.specs.declared.tree.Step.{Step}
 use Rattle.luf_tree.specs.declared.tree.Suffix.{Suffix}
 use Rattle.luf_tree.specs.declared.tree.Field.{Field}
 use Rattle.luf_tree.specs.declared.tree.FuncBody.{FuncBody, roll-FuncBody}
-use Rattle.luf_tree.specs.declared.tree.Chunk.{Chunk}
 use Rattle.luf_tree.specs.TokenSyntax.{from_to}
-use Rattle.luf_tree.specs.TokenSyntax as tokens
-use Rattle.luf_tree.specs.SyntaxOf.{declared_of, first_of_path, rest_of_path, expressions_of, operations_of, suffixes_of, fields_of, statements_of, arms_of, optional_expression_of, optional_block_of, syntax_of, syntax_of_expr, syntax_of_field, syntax_of_suffix, syntax_of_step, syntax_of_stat, syntax_of_arm, syntax_of_block, syntax_of_body, syntax_of_args}
+use Rattle.luf_tree.specs.SyntaxOf.{declared_of, first_of_path, rest_of_path, expressions_of, operations_of, suffixes_of, fields_of, statements_of, arms_of, optional_expression_of, optional_block_of, syntax_of_expr, syntax_of_field, syntax_of_suffix, syntax_of_step, syntax_of_stat, syntax_of_arm, syntax_of_block, syntax_of_body, syntax_of_args}
 use Rattle.luf_tree.specs.Grammar as g
 use Rattle.luf_tree.specs.Grammar.{IsToken, IsString, AreNames, AreParams, IsAttribute, AreDeclared, IsPath, IsMethod, IsSemicolon, IsExpr, AreSteps, IsOperand, IsSimple, IsPrefix, IsVariable, IsCall, IsParen, IsHead, AreSuffixes, IsSuffix, IsArgs, AreExprs, IsTable, AreFields, IsField, IsFuncBody, IsBlock, AreStats, IsReturn, IsStat, AreTargets, IsArm, AreArms, IsElse, IsForStep, IsChunk}
 use Rattle.luf_tree.proofs.SyntaxEquations as eq
@@ -25,7 +23,7 @@ use Rattle.luf_scope.specs.Occurrences.{Holder, span_of, body_of, span_of_body, 
 use Rattle.luf_scope.specs.declared.occurrence.Occurrence.{Occurrence}
 use Rattle.luf_scope.specs.declared.occurrence.Occurrence.TheVariants as occurrence
 use Rattle.luf_scope.specs.declared.occurrence.Occurrence.TheVariants.{Local, LocalFunction, Parameter, ImplicitSelf, LoopVariable, Reads, Assigns, Varargs, Function, Loop, Label, Goto, Break}
-use Rattle.luf_scope.specs.Order.{place, behind, declares, from_of, to_of, is_loop, is_label, IsPlaced, AreOrdered}
+use Rattle.luf_scope.specs.Order.{place, behind, declares, from_of, IsPlaced, AreOrdered}
 use Rattle.luf_scope.proofs.Lying.{nothing_lies, wider, out, joins, one_first, one_alone, Row, no_row, in_row, row_on, row_scope, row_lies, round_first, begin_in, HasScope, IsPlain, plain_placed}
 
 -- what lies in a part that equals it
@@ -166,12 +164,12 @@ body_round {i = i} {j = j} {k = k} {l = l} {o = o} {p = p} {params = params} {va
     let row : AreOrdered j l o names = by (sym (append-nil names)) (row_lies (parameters_row l o d) (lone u) (omega arith) block.on) in
     let whole : AreOrdered i o o (Function i p vararg ∷ (names ++ said)) = one_first i j o o (Function i p vararg) (names ++ said) refl (plain_placed (Function i p vararg) (refl, refl) (omega arith)) (omega arith) (omega arith) (joins j l o o names said row block) in
     let begin_all : All (λ w. declares w ≡ true → l ≤ from_of w) (Function i p vararg ∷ (names ++ said)) =
-        All-cons (λ w. declares w ≡ true → l ≤ from_of w) (Function i p vararg) (names ++ said) (λ h. absurd cc)
-          (All-append (λ w. declares w ≡ true → l ≤ from_of w) names said
-            (All-weaker (HasScope l o) (λ w. declares w ≡ true → l ≤ from_of w) (λ w is _. let from = is.0 in omega (arith, from)) names (row_scope (parameters_row l o d)))
-            (begin_in l o o said block)) in
+    All-cons (λ w. declares w ≡ true → l ≤ from_of w) (Function i p vararg) (names ++ said) (λ h. absurd cc)
+    (All-append (λ w. declares w ≡ true → l ≤ from_of w) names said
+    (All-weaker (HasScope l o) (λ w. declares w ≡ true → l ≤ from_of w) (λ w is _. let from = is.0 in omega (arith, from)) names (row_scope (parameters_row l o d)))
+    (begin_in l o o said block)) in
     let same : occurrences_in_body (syntax_of_body (body_at i p params vararg body)) ≡ Function i p vararg ∷ (names ++ said) =
-        ap occurrences_in_body (eq.body_of_syntax i p params vararg body) ∙ ap (λ s. Function i p vararg ∷ (parameters_of s params ++ said)) (block_span b) in
+    ap occurrences_in_body (eq.body_of_syntax i p params vararg body) ∙ ap (λ s. Function i p vararg ∷ (parameters_of s params ++ said)) (block_span b) in
     record {
       first = l;
       last = o;
@@ -180,7 +178,7 @@ body_round {i = i} {j = j} {k = k} {l = l} {o = o} {p = p} {params = params} {va
       up = above;
       within = omega arith;
       inner = by same whole;
-      begins = subst (λ (os : List Occurrence). All (λ w. declares w ≡ true → l ≤ from_of w) os) (sym same) begin_all
+      begins = subst (λ (os : List Occurrence). All (λ w. declares w ≡ true → l ≤ from_of w) os) (sym same) begin_all;
     }
 
 body_whole : {i j : ℕ} {f : FuncBody} → BodyLies i j f → AreOrdered i j j (occurrences_in_body (syntax_of_body f))
@@ -195,9 +193,9 @@ method_round {f = f} (g.a_method {i = k} {j = n} {k = l} t u) b =
     let on = b.on in
     let said : List Occurrence = occurrences_in_body (syntax_of_body f) in
     by (ap (λ s. method_of s (Some n) ++ said) b.span)
-      (longer b.within (round_first k n b.last b.first b.last b.last (ImplicitSelf (n - 1) b.first b.last) (occurrence.Field n ∷ said) (refl, refl) (omega arith) (omega arith) (omega arith) (omega arith) (refl, refl) b.up (omega arith) (omega arith) (inl refl)
-        (All-cons (λ w. declares w ≡ true → b.first ≤ from_of w) (occurrence.Field n) said (λ h. absurd cc) b.begins)
-        (says (occurrence.Field n) refl (refl, refl) refl refl u ⨾ b.inner)))
+    (longer b.within (round_first k n b.last b.first b.last b.last (ImplicitSelf (n - 1) b.first b.last) (occurrence.Field n ∷ said) (refl, refl) (omega arith) (omega arith) (omega arith) (omega arith) (refl, refl) b.up (omega arith) (omega arith) (inl refl)
+    (All-cons (λ w. declares w ≡ true → b.first ≤ from_of w) (occurrence.Field n) said (λ h. absurd cc) b.begins)
+    (says (occurrence.Field n) refl (refl, refl) refl refl u ⨾ b.inner)))
 
 loop_round : {toks : List Tok} {i j : ℕ} {b : Block} → IsBlock toks i j b → AreOrdered i j j (occurrences_in_block (syntax_of_block b)) → AreOrdered i j j (loop_of (span_of (syntax_of_block b)) ∷ occurrences_in_block (syntax_of_block b))
 loop_round {i = i} {j = j} {b = b} d block = by (ap (λ s. loop_of s ∷ occurrences_in_block (syntax_of_block b)) (block_span d)) (one_first i i j j (Loop i j) (occurrences_in_block (syntax_of_block b)) refl (loop_placed i j) (omega arith) (omega arith) block)
@@ -292,7 +290,7 @@ mutual
   repeated_lies : {toks : List Tok} {i j : ℕ} {b : Block} (e : ℕ) → IsBlock toks i j b → j ≤ e → AreOrdered i j e (loop_of (span_of (syntax_of_block b)) ∷ occurrences_in_repeated e (syntax_of_block b))
   repeated_lies e (g.block {i = i} {j = j} {stats = stats} d) up =
       by (ap (λ b. loop_of (span_of b) ∷ occurrences_in_repeated e b) (eq.block_of_syntax i j stats))
-         (one_first i i j e (Loop i j) (occurrences_in_statements (record { span = from_to i j; end = e; until = true }) (statements_of (map syntax_of_stat stats))) refl (loop_placed i j) (omega arith) (omega arith) (stats_lie (record { span = from_to i j; end = e; until = true }) d (record { low = omega arith; high = omega arith; up = up })))
+      (one_first i i j e (Loop i j) (occurrences_in_statements (record { span = from_to i j; end = e; until = true }) (statements_of (map syntax_of_stat stats))) refl (loop_placed i j) (omega arith) (omega arith) (stats_lie (record { span = from_to i j; end = e; until = true }) d (record { low = omega arith; high = omega arith; up = up })))
 
   stats_lie : {toks : List Tok} {i j : ℕ} {stats : List Stat} (h : Holder) → AreStats toks i j stats → Fits h i j → AreOrdered i j h.end (occurrences_in_statements h (statements_of (map syntax_of_stat stats)))
   stats_lie {i = i} h g.no_stats fits = nothing_lies i i h.end (omega arith) (fit_end fits)
@@ -305,7 +303,7 @@ mutual
       let above = second.on in
       let high = fits.high in
       joins i m e h.end (occurrences_in_statement h (are_void (statements_of (map syntax_of_stat rest))) (syntax_of_stat s)) (occurrences_in_statements h (statements_of (map syntax_of_stat rest)))
-          (stat_lies h (are_void (statements_of (map syntax_of_stat rest))) d (record { low = low; high = omega (arith, above, high); up = fits.up })) second
+      (stat_lies h (are_void (statements_of (map syntax_of_stat rest))) d (record { low = low; high = omega (arith, above, high); up = fits.up })) second
 
   return_lies : {toks : List Tok} {i j : ℕ} {s : Stat} (h : Holder) (ended : Bool) → IsReturn toks i j s → Fits h i j → AreOrdered i j h.end (occurrences_in_statement h ended (syntax_of_stat s))
   return_lies h ended (g.return_nothing t s) fits = by (ap (occurrences_in_statement h ended) (eq.return_syntax _ _ _)) (in_block (fit_end fits) (longer (semicolon_on s) (lone t)))
@@ -322,7 +320,7 @@ mutual
   stat_lies h ended (g.repeat_stat {j = j} {k = k} {o = o} {body = body} {e = e} t b u d) fits =
       let test = skip u (expr_lies d) in
       by (ap (occurrences_in_statement h ended) (eq.repeat_syntax _ _ _ _))
-         (in_block (fit_end fits) (skip t (joins j k o o (loop_of (span_of (syntax_of_block body)) ∷ occurrences_in_repeated o (syntax_of_block body)) (occurrences_in_expression (syntax_of_expr e)) (repeated_lies o b test.on) test)))
+      (in_block (fit_end fits) (skip t (joins j k o o (loop_of (span_of (syntax_of_block body)) ∷ occurrences_in_repeated o (syntax_of_block body)) (occurrences_in_expression (syntax_of_expr e)) (repeated_lies o b test.on) test)))
   stat_lies h ended (g.if_stat t arms last u) fits = by (ap (occurrences_in_statement h ended) (eq.if_syntax _ _ _ _)) (in_block (fit_end fits) (skip t (end (arms_lie arms ⨾ else_lies last) u)))
   stat_lies h ended (g.for_stat {j = j} {q = q} {r = r} {first = first} {limit = limit} {step = step} {body = body} t n a x c y z d b e) fits =
       let loop = loop_round b (block_lies b) in
@@ -332,33 +330,33 @@ mutual
       let C = occurrences_in_optional_expression (optional_expression_of (option_map syntax_of_expr step)) in
       let D = loop_of (span_of (syntax_of_block body)) ∷ occurrences_in_block (syntax_of_block body) in
       by (ap (occurrences_in_statement h ended) (eq.for_syntax _ _ _ _ _ _ _)
-           ∙ ap (λ s. (((loop_variables_of s (j ∷ []) ++ A) ++ B) ++ C) ++ D) (block_span b)
-           ∙ ap (λ os. os ++ D) (swap3 (loop_variables_of (from_to q r) (j ∷ [])) A B C))
-         (in_block (fit_end fits) (skip t (end
-           (joins j q r r (loop_variables_of (from_to q r) (j ∷ []) ++ ((A ++ B) ++ C)) D
-             (row_lies (loop_row q r (g.one_name n)) (end ((skip a (expr_lies x) ⨾ skip c (expr_lies y)) ⨾ step_lies z) d) (omega arith) loop.on) loop) e)))
+      ∙ ap (λ s. (((loop_variables_of s (j ∷ []) ++ A) ++ B) ++ C) ++ D) (block_span b)
+      ∙ ap (λ os. os ++ D) (swap3 (loop_variables_of (from_to q r) (j ∷ [])) A B C))
+      (in_block (fit_end fits) (skip t (end
+      (joins j q r r (loop_variables_of (from_to q r) (j ∷ []) ++ ((A ++ B) ++ C)) D
+      (row_lies (loop_row q r (g.one_name n)) (end ((skip a (expr_lies x) ⨾ skip c (expr_lies y)) ⨾ step_lies z) d) (omega arith) loop.on) loop) e)))
   stat_lies h ended (g.for_in_stat {j = j} {p = p} {q = q} {names = names} {es = es} {body = body} t n a x d b e) fits =
       let loop = loop_round b (block_lies b) in
       let A = occurrences_in_expressions (expressions_of (map syntax_of_expr es)) in
       let D = loop_of (span_of (syntax_of_block body)) ∷ occurrences_in_block (syntax_of_block body) in
       by (ap (occurrences_in_statement h ended) (eq.for_in_syntax _ _ _ _ _)
-           ∙ ap (λ s. (loop_variables_of s names ++ A) ++ D) (block_span b))
-         (in_block (fit_end fits) (skip t (end
-           (joins j p q q (loop_variables_of (from_to p q) names ++ A) D
-             (row_lies (loop_row p q n) (end (skip a (exprs_lie x)) d) (omega arith) loop.on) loop) e)))
+      ∙ ap (λ s. (loop_variables_of s names ++ A) ++ D) (block_span b))
+      (in_block (fit_end fits) (skip t (end
+      (joins j p q q (loop_variables_of (from_to p q) names ++ A) D
+      (row_lies (loop_row p q n) (end (skip a (exprs_lie x)) d) (omega arith) loop.on) loop) e)))
   stat_lies h ended (g.function_stat {path = path} {method = method} {f = f} t p m d) fits =
       by (ap (occurrences_in_statement h ended) (eq.function_stat_syntax _ _ _ _ _)
-           ∙ append_assoc (path_of (first_of_path path) (rest_of_path path) method) (method_of (span_of (body_of (syntax_of_body f))) method) (occurrences_in_body (syntax_of_body f)))
-         (in_block (fit_end fits) (skip t (path_lies method p ⨾ method_round m (body_lies d))))
+      ∙ append_assoc (path_of (first_of_path path) (rest_of_path path) method) (method_of (span_of (body_of (syntax_of_body f))) method) (occurrences_in_body (syntax_of_body f)))
+      (in_block (fit_end fits) (skip t (path_lies method p ⨾ method_round m (body_lies d))))
   stat_lies h ended (g.local_function_stat {k = k} {l = l} {o = o} {f = f} t u n d) fits =
       let body = body_whole (body_lies d) in
       let next = n.next in
       by (ap (occurrences_in_statement h ended) (eq.local_function_syntax _ _ _ _) ∙ ap (λ from. LocalFunction k from h.end ∷ occurrences_in_body (syntax_of_body f)) (whole_body_span d))
-         (skip t (skip u (round_first k l o l h.end h.end (LocalFunction k l h.end) (occurrences_in_body (syntax_of_body f)) (refl, refl) (omega arith) (omega arith) (omega arith) (omega arith) (refl, refl) body.on (fit_end fits) (omega arith) (inl refl) (begin_in l o o (occurrences_in_body (syntax_of_body f)) body) body)))
+      (skip t (skip u (round_first k l o l h.end h.end (LocalFunction k l h.end) (occurrences_in_body (syntax_of_body f)) (refl, refl) (omega arith) (omega arith) (omega arith) (omega arith) (refl, refl) body.on (fit_end fits) (omega arith) (inl refl) (begin_in l o o (occurrences_in_body (syntax_of_body f)) body) body)))
   stat_lies h ended (g.label_stat {i = i} {j = j} {l = l} t n u) fits =
       let a = t.next in let b = n.next in let c = u.next in let low = fits.low in let high = fits.high in
       by (ap (occurrences_in_statement h ended) (eq.label_syntax _ _ _))
-         (in_block (fit_end fits) (one_alone i l l (Label j h.span.from h.span.to (not h.until && ended)) refl (label_placed j h.span.from h.span.to (not h.until && ended) (omega (arith, low)) (omega (arith, high))) (omega arith) (omega arith) (omega arith)))
+      (in_block (fit_end fits) (one_alone i l l (Label j h.span.from h.span.to (not h.until && ended)) refl (label_placed j h.span.from h.span.to (not h.until && ended) (omega (arith, low)) (omega (arith, high))) (omega arith) (omega arith) (omega arith)))
   stat_lies h ended (g.goto_stat {i = i} {j = j} {k = k} t n) fits =
       let a = t.next in let b = n.next in
       by (ap (occurrences_in_statement h ended) (eq.goto_syntax _ _ _)) (in_block (fit_end fits) (one_alone i k k (Goto i j) refl (plain_placed (Goto i j) (refl, refl) (omega arith)) (omega arith) (omega arith) (omega arith)))
