@@ -7,6 +7,7 @@ mod fault;
 mod jump;
 mod links;
 mod marks;
+mod laws;
 mod occurrence;
 mod reading;
 
@@ -14,6 +15,7 @@ pub use binder::{Binder, BinderKind, Role};
 pub use fault::{ScopeBad, ScopeErr, ScopeWhat, first_of};
 pub use jump::JumpRole;
 pub use links::Links;
+pub use laws::{label_blocks_are_nested, occurrences_are_ordered};
 pub use luf_memory::Memory;
 pub use marks::Marks;
 pub use occurrence::Occurrence;
