@@ -1,4 +1,3 @@
 -- What only private functions cite, so that nothing here has to be believed.
-pub mod Holders
 pub mod Sites
 pub mod Names

@@ -1,7 +1,6 @@
 //! Where each `goto` of a chunk goes.
 #![tactic(auto)]
 
-mod holders;
 mod names;
 mod sites;
 

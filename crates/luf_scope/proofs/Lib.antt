@@ -8,3 +8,4 @@ pub mod Places
 pub mod Ordered
 pub mod Holding
 pub mod Blocks
+pub mod Trails

@@ -1,4 +1,5 @@
 pub mod Fault
+pub mod Holders
 pub mod Links
 pub mod Local
 pub mod Jump

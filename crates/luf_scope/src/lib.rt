@@ -4,6 +4,7 @@
 mod adding;
 mod binder;
 mod fault;
+mod holders;
 mod jump;
 mod links;
 mod marks;
@@ -13,6 +14,7 @@ mod reading;
 
 pub use binder::{Binder, BinderKind, Role};
 pub use fault::{ScopeBad, ScopeErr, ScopeWhat, first_of};
+pub use holders::{Extent, Spot, last_holders};
 pub use jump::JumpRole;
 pub use links::Links;
 pub use laws::{label_blocks_are_nested, occurrences_are_ordered};
