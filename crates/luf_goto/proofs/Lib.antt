@@ -1,3 +1,4 @@
+pub mod Inner
 pub mod Lists
-pub mod Naming
+pub mod Numbers
 pub mod Places

@@ -1,3 +1,4 @@
 -- What only private functions cite, so that nothing here has to be believed.
 pub mod Sites
 pub mod Names
+pub mod Innermost

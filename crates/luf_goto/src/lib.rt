@@ -1,7 +1,9 @@
 //! Where each `goto` of a chunk goes.
 #![tactic(auto)]
 
+mod innermost;
 mod names;
+mod naming;
 mod sites;
 
 use luf_memory::Memory;

@@ -1,5 +1,5 @@
 // Numbers for the names of labels.
-ghost use Rattle.std.specs.Prelude.{◌≡◌, ℕ, List, Some, None, IfOk, OnOk, cond, map, unwrap_or};
+ghost use Rattle.std.specs.Prelude.{◌≡◌, ◌<◌, ◌^◌, ℕ, length, List, Some, None, IfOk, OnOk, cond, map, unwrap_or};
 ghost use Rattle.std.specs.Option.{option_or};
 ghost use Rattle.luf_goto.specs.inner.Names.{same_name, name_of, place_in, first_place};
 
@@ -12,7 +12,8 @@ pub type Name<'a> = (u32, &'a [u8]);
 
 // Each name has the place of the first one that is the same. Names that are too many to be numbered have no room.
 pub fn number_names(alloc: Global, names: &[Name<'_>]) -> Result<Vec<u32>, Memory>
-    ensures { IfOk result (λ numbers. numbers.items ≡ map (first_place (map name_of names.now)) (map name_of names.now)) }
+    ensures numbers { IfOk result (λ numbers. numbers.items ≡ map (first_place (map name_of names.now)) (map name_of names.now)) }
+    ensures few { IfOk result (λ numbers. length names.now < 2 ^ 32) }
 {
     if names.len() > u32::MAX as usize {
         return Err(Memory);

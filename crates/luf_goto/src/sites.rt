@@ -6,27 +6,26 @@ ghost use Rattle.luf_scope.specs.Order as order;
 ghost use Rattle.luf_goto.specs.inner.Sites.{IsInOrder, home_of, stop_at, function_extent, label_in, goto_in, loop_in, break_in, label_row, goto_row, loop_extent, break_spot};
 
 use crate::Memory;
-use luf_scope::{Extent, Spot, last_holders};
-use luf_scope::Occurrence;
+use luf_scope::{Extent, Occurrence, Spot, last_holders};
 use std::alloc::Global;
 
-// A label: the token of its name, the number of its function, its block, and whether it counts as standing outside the
-// local variables of that block. The main function has the number 0.
+// A label: the token of its name, the number of its function, or later of its name in that function, its block, and
+// whether it counts as standing outside the local variables of that block. The main function has the number 0.
 #[derive(Clone, Copy)]
 pub struct LabelRow {
     pub name: u32,
-    pub home: u32,
+    pub class: u32,
     pub from: u32,
     pub to: u32,
     pub at_end: bool,
 }
 
-// A goto: its token, the token of its label's name, and the number of its function.
+// A goto: its token, the token of its label's name, and the number of its function, or later of that name in it.
 #[derive(Clone, Copy)]
 pub struct GotoRow {
     pub token: u32,
     pub name: u32,
-    pub home: u32,
+    pub class: u32,
 }
 
 // The class of a loop and of a break is the number of the function that holds it.
@@ -75,7 +74,7 @@ impl Sites {
             } => {
                 self.labels.push(LabelRow {
                     name,
-                    home,
+                    class: home,
                     from,
                     to,
                     at_end,
@@ -83,7 +82,11 @@ impl Sites {
                 Ok(())
             }
             Occurrence::Goto { token, name } => {
-                self.gotos.push(GotoRow { token, name, home })?;
+                self.gotos.push(GotoRow {
+                    token,
+                    name,
+                    class: home,
+                })?;
                 Ok(())
             }
             Occurrence::Loop { from, to } => {

@@ -29,11 +29,11 @@ function_extent (Function from to vararg) = Some (record { class = 0; from = fro
 function_extent _ = None
 
 abbrev pub label_in : ℕ → Occurrence → Option LabelRow
-label_in home (Label name from to at_end) = Some (record { name = name; home = home; from = from; to = to; at_end = at_end })
+label_in home (Label name from to at_end) = Some (record { name = name; class = home; from = from; to = to; at_end = at_end })
 label_in home _ = None
 
 abbrev pub goto_in : ℕ → Occurrence → Option GotoRow
-goto_in home (Goto token name) = Some (record { token = token; name = name; home = home })
+goto_in home (Goto token name) = Some (record { token = token; name = name; class = home })
 goto_in home _ = None
 
 abbrev pub loop_in : ℕ → Occurrence → Option Extent

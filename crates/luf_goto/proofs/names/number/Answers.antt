@@ -1,6 +1,6 @@
 use Rattle.std.proofs.Common.{◌≡◌, None, sym, ap, ◌∙◌}
 use Rattle.luf_goto.specs.inner.Names.{name_of, place_in}
-use Rattle.luf_goto.proofs.Naming.{same_is, kept_is}
+use Rattle.luf_goto.proofs.Numbers.{same_is, kept_is}
 use Rattle.luf_goto.proofs.names.number.Goals as goal
 
 pub returns-in_ok-insert-in-None-clause-kept : goal.returns-in_ok-insert-in-None-clause-kept
