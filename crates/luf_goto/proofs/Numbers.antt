@@ -2,14 +2,18 @@
 use Rattle.std.proofs.Common.{◌≡◌, ℕ, ◌+◌, ◌<◌, ◌≤◌, Bool, true, false, cond, ◌&&◌, List, [], ◌∷◌, ◌++◌, Option, Some, None, Ordering, Less, Equal, Greater, length, get_or, take, drop, map, zero, suc, eqb, inl, inr, unwrap_or, bytes_eq, refl, sym, ap, ◌∙◌, subst, arith, add-zero, zero-add}
 use Rattle.std.proofs.lemmas.Bool.{and_parts, and_from, eqb-true, eq-eqb, cases_Bool, cond-true, cond-false}
 use Rattle.std.proofs.lemmas.Bool.Decides.{same_from_decides, nat_tests}
-use Rattle.std.proofs.lemmas.List.{map-append, map_push, take-append-drop, drop_more, map_more, length-map, length-take-le}
+use Rattle.std.proofs.lemmas.List.{map-append, map_push, take-append-drop, drop_more, map_more, length-map, length-take-le, length-append, length_push, append_assoc, append-nil, get_or_at}
 use Rattle.std.proofs.lemmas.Map.Text.{is_eq-slice_cmp}
 use Rattle.std.proofs.lemmas.Slice.Eq.{bytes_eq-Decides}
 use Rattle.std.specs.Cmp.Lexicographic.{slice_cmp}
 use Rattle.std.specs.List.{position_from}
 use Rattle.std.specs.Option.{option_or}
 use Rattle.std.specs.Ordering.{is_eq, nat_cmp, ordering_then}
-use Rattle.luf_goto.specs.inner.Names.{same_name, first_place}
+use Rattle.luf_scope.specs.Local.{Spelling}
+use Rattle.luf_goto.specs.declared.sites.LabelRow.{LabelRow}
+use Rattle.luf_goto.specs.declared.sites.GotoRow.{GotoRow}
+use Rattle.luf_goto.specs.inner.Names.{same_name, first_place, label_name, goto_name, names_in, numbered_label, numbered_goto, labels_numbered, gotos_numbered}
+use Rattle.luf_goto.proofs.Lists.{map_through}
 
 abbrev Name : Type 0
 Name = ℕ × List ℕ
@@ -116,3 +120,51 @@ module _ {A : Type 0} (f : A → Name) (names : List A) (i : ℕ) (d : A) (y : N
       ∙ ap (λ m. map F (map f (take i names)) ++ m ∷ []) (one ∙ ap F is)
       ∙ sym (map_push F (map f (take i names)) (f (get_or names i d)))
       ∙ ap (map F) (sym (map_more f names i d inside))
+
+-- ---- rows with the numbers of their names
+
+abbrev label_with : ℕ → LabelRow → LabelRow
+label_with n l = record l { class = n }
+
+abbrev goto_with : ℕ → GotoRow → GotoRow
+goto_with n g = record g { class = n }
+
+labels_are : (G : LabelRow → ℕ) (before after numbers : List ℕ) (n : ℕ) (labels : List LabelRow) → length before ≡ n → numbers ≡ before ++ (map G labels ++ after) → labels_numbered numbers n labels ≡ map (λ l. label_with (G l) l) labels
+labels_are G before after numbers n [] long is = refl
+labels_are G before after numbers n (l ∷ labels) long is =
+    ap (λ c. label_with c l ∷ labels_numbered numbers (n + 1) labels) (ap (λ xs. get_or xs n 0) is ∙ get_or_at before (G l) (map G labels ++ after) 0 n long)
+    ∙ ap (λ rows. label_with (G l) l ∷ rows)
+      (labels_are G (before ++ G l ∷ []) after numbers (n + 1) labels (length_push before (G l) ∙ ap (λ m. m + 1) long) (is ∙ sym (append_assoc before (G l ∷ []) (map G labels ++ after))))
+
+gotos_are : (G : GotoRow → ℕ) (before after numbers : List ℕ) (n : ℕ) (gotos : List GotoRow) → length before ≡ n → numbers ≡ before ++ (map G gotos ++ after) → gotos_numbered numbers n gotos ≡ map (λ g. goto_with (G g) g) gotos
+gotos_are G before after numbers n [] long is = refl
+gotos_are G before after numbers n (g ∷ gotos) long is =
+    ap (λ c. goto_with c g ∷ gotos_numbered numbers (n + 1) gotos) (ap (λ xs. get_or xs n 0) is ∙ get_or_at before (G g) (map G gotos ++ after) 0 n long)
+    ∙ ap (λ rows. goto_with (G g) g ∷ rows)
+      (gotos_are G (before ++ G g ∷ []) after numbers (n + 1) gotos (length_push before (G g) ∙ ap (λ m. m + 1) long) (is ∙ sym (append_assoc before (G g ∷ []) (map G gotos ++ after))))
+
+module _ (spelled : Spelling) (labels : List LabelRow) (gotos : List GotoRow) (numbers : List ℕ) (is : numbers ≡ map (first_place (names_in spelled labels gotos)) (names_in spelled labels gotos)) where
+  N : List Name
+  N = names_in spelled labels gotos
+  G : LabelRow → ℕ
+  G l = first_place (names_in spelled labels gotos) (label_name spelled l)
+  H : GotoRow → ℕ
+  H g = first_place (names_in spelled labels gotos) (goto_name spelled g)
+
+  parted : numbers ≡ map G labels ++ map H gotos
+  unfolding N G H
+  parted =
+      is ∙ map-append (first_place (names_in spelled labels gotos)) (map (label_name spelled) labels) (map (goto_name spelled) gotos)
+      ∙ ap (λ xs. xs ++ map (first_place (names_in spelled labels gotos)) (map (goto_name spelled) gotos)) (map_through (label_name spelled) (first_place (names_in spelled labels gotos)) G (λ l. refl) labels)
+      ∙ ap (λ xs. map G labels ++ xs) (map_through (goto_name spelled) (first_place (names_in spelled labels gotos)) H (λ g. refl) gotos)
+
+  pub room_for : length labels + length gotos ≤ length numbers
+  room_for = omega (arith, ap length parted ∙ length-append (map G labels) (map H gotos), length-map labels G, length-map gotos H)
+
+  pub labels_named : labels_numbered numbers 0 labels ≡ map (numbered_label spelled (names_in spelled labels gotos)) labels
+  unfolding G
+  labels_named = labels_are G [] (map H gotos) numbers 0 labels refl parted
+
+  pub gotos_named : gotos_numbered numbers (length labels) gotos ≡ map (numbered_goto spelled (names_in spelled labels gotos)) gotos
+  unfolding H
+  gotos_named = gotos_are H (map G labels) [] numbers (length labels) gotos (length-map labels G) (parted ∙ ap (λ xs. map G labels ++ xs) (sym (append-nil (map H gotos))))

@@ -2,3 +2,4 @@
 pub mod Sites
 pub mod Names
 pub mod Innermost
+pub mod Firsts

@@ -1,6 +1,7 @@
 //! Where each `goto` of a chunk goes.
 #![tactic(auto)]
 
+mod firsts;
 mod innermost;
 mod names;
 mod naming;

@@ -31,9 +31,12 @@ pub fn name_sites(
 {
     let names = names_of(alloc, src, cut, labels, gotos)?;
     let numbers = number_names(alloc, names.as_slice())?;
-    let labels = number_labels(alloc, labels, numbers.as_slice())?;
-    let gotos = number_gotos(alloc, gotos, labels.len(), numbers.as_slice())?;
-    Ok(Named { labels, gotos })
+    let named_labels = number_labels(alloc, labels, numbers.as_slice())?;
+    let named_gotos = number_gotos(alloc, gotos, labels.len(), numbers.as_slice())?;
+    Ok(Named {
+        labels: named_labels,
+        gotos: named_gotos,
+    })
 }
 
 fn names_of<'a>(

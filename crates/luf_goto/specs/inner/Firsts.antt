@@ -1,0 +1,16 @@
+-- The first spot of those that pass a test.
+use Rattle.std.specs.Prelude.{ℕ, Bool, true, false, not, cond, Option, Some, None, List, [], ◌∷◌}
+use Rattle.std.specs.List.{list_any}
+use Rattle.luf_scope.specs.Holders.{holds}
+use Rattle.luf_scope.specs.declared.holders.Extent.{Extent}
+use Rattle.luf_scope.specs.declared.holders.Spot.{Spot}
+
+-- its place
+abbrev pub first_where : (Spot → Bool) → List Spot → Option ℕ
+first_where test [] = None
+first_where test (s ∷ spots) = cond (test s) (Some s.place) (first_where test spots)
+
+-- whether some extent holds a spot is this
+abbrev pub is_held : List Extent → Bool → Spot → Bool
+is_held extents true s = list_any (holds s) extents
+is_held extents false s = not (list_any (holds s) extents)
