@@ -1,7 +1,7 @@
 // The first spot that some extent holds, or that none does.
 ghost use Rattle.std.specs.Prelude.{◌≡◌, ◌<◌, IfOk, All};
 ghost use Rattle.std.specs.List.Sorted.{IsNonDecreasingBy};
-ghost use Rattle.luf_goto.specs.inner.Firsts.{first_where, is_held};
+ghost use Rattle.luf_goto.specs.inner.Firsts.{first_where, is_held, is_wanted};
 
 use crate::Memory;
 use luf_scope::{Extent, Spot, last_holders};
@@ -22,9 +22,16 @@ pub fn first_spot(
 {
     let found = last_holders(alloc, extents, classes, spots)?;
     for (i, s) in spots.iter().enumerate() {
-        if (found[i] > 0) == held {
+        if is_wanted(found[i], held) {
             return Ok(Some(s.place));
         }
     }
     Ok(None)
+}
+
+// Whether a number that is one higher is that of an extent, or is not.
+fn is_wanted(n: u32, held: bool) -> bool
+    ensures { result ≡ is_wanted n held }
+{
+    (n > 0) == held
 }

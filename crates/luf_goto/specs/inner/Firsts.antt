@@ -1,5 +1,5 @@
 -- The first spot of those that pass a test.
-use Rattle.std.specs.Prelude.{ℕ, Bool, true, false, not, cond, Option, Some, None, List, [], ◌∷◌}
+use Rattle.std.specs.Prelude.{ℕ, Bool, true, false, not, cond, nat_lt, Option, Some, None, List, [], ◌∷◌}
 use Rattle.std.specs.List.{list_any}
 use Rattle.luf_scope.specs.Holders.{holds}
 use Rattle.luf_scope.specs.declared.holders.Extent.{Extent}
@@ -14,3 +14,7 @@ first_where test (s ∷ spots) = cond (test s) (Some s.place) (first_where test 
 abbrev pub is_held : List Extent → Bool → Spot → Bool
 is_held extents true s = list_any (holds s) extents
 is_held extents false s = not (list_any (holds s) extents)
+
+abbrev pub is_wanted : ℕ → Bool → Bool
+is_wanted n true = nat_lt 0 n
+is_wanted n false = not (nat_lt 0 n)
