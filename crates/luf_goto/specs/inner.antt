@@ -3,3 +3,4 @@ pub mod Sites
 pub mod Names
 pub mod Innermost
 pub mod Firsts
+pub mod Rows

@@ -5,6 +5,10 @@ mod firsts;
 mod innermost;
 mod names;
 mod naming;
+mod outside;
+mod scopes;
 mod sites;
+mod targets;
+mod twice;
 
 use luf_memory::Memory;
