@@ -31,3 +31,11 @@ rising_map n f e xs pairs i j d up inside =
 pub map_through : {X Y Z : Type 0} (f : X → Y) (g : Y → Z) (h : X → Z) → ((x : X) → g (f x) ≡ h x) → (xs : List X) → map g (map f xs) ≡ map h xs
 map_through f g h each [] = refl
 map_through f g h each (x ∷ xs) = ap (λ z. z ∷ map g (map f xs)) (each x) ∙ ap (λ zs. h x ∷ zs) (map_through f g h each xs)
+
+-- a map keeps a list rising that does so by what it reads
+pub rising_mapped : {X Y : Type 0} (n : X → ℕ) (m : Y → ℕ) (f : X → Y) (e : X) → ((x y : X) → n x ≤ n y → m (f x) ≤ m (f y)) → (xs : List X) → IsNonDecreasingBy n xs → IsNonDecreasingBy m (map f xs)
+rising_mapped n m f e keeps xs rises i j d up inside =
+    let within : j < length xs = omega (arith, length-map xs f) in
+    let r = keeps (get_or xs i e) (get_or xs j e) (rises i j e up within) in
+    subst (λ y. m y ≤ m (get_or (map f xs) j d)) (sym (get_or-map f xs i e d (omega arith)))
+    (subst (λ y. m (f (get_or xs i e)) ≤ m y) (sym (get_or-map f xs j e d within)) r)
