@@ -2,5 +2,6 @@ pub mod Blocks
 pub mod Held
 pub mod Inner
 pub mod Lists
+pub mod Marks
 pub mod Numbers
 pub mod Places

@@ -4,3 +4,6 @@ pub mod Names
 pub mod Innermost
 pub mod Firsts
 pub mod Rows
+pub mod Leaps
+pub mod Faults
+pub mod Marking

@@ -1,8 +1,11 @@
 //! Where each `goto` of a chunk goes.
 #![tactic(auto)]
 
+mod faults;
 mod firsts;
 mod innermost;
+mod jumps;
+mod leaps;
 mod names;
 mod naming;
 mod outside;
@@ -11,4 +14,5 @@ mod sites;
 mod targets;
 mod twice;
 
-use luf_memory::Memory;
+pub use jumps::Jumps;
+pub use luf_memory::Memory;
