@@ -6,9 +6,14 @@ mod binder;
 mod fault;
 mod jump;
 mod links;
+mod locals;
 mod marks;
+mod meanings;
+mod names;
 mod occurrence;
 mod reading;
+mod scopes;
+mod stacks;
 
 pub use binder::{Binder, BinderKind, Role};
 pub use fault::{ScopeBad, ScopeErr, ScopeWhat, first_of};
