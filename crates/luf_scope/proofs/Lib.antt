@@ -4,3 +4,7 @@ pub mod TreeReads
 pub mod Solid
 pub mod Targets
 pub mod Lying
+pub mod Places
+pub mod Ordered
+pub mod Holding
+pub mod Blocks

@@ -11,6 +11,9 @@ use Rattle.luf_scope.specs.Role.{role_of}
 use Rattle.luf_scope.specs.declared.binder.Binder.{Binder}
 use Rattle.luf_scope.specs.declared.binder.Role.{Role}
 use Rattle.luf_scope.specs.declared.binder.Role.TheVariants as role
+use Rattle.luf_scope.specs.declared.fault.ScopeBad.{ScopeBad}
+use Rattle.luf_scope.specs.declared.fault.ScopeErr.{ScopeErr}
+use Rattle.luf_scope.specs.declared.fault.ScopeErr.TheVariants as err
 use Rattle.luf_scope.specs.declared.occurrence.Occurrence.{Occurrence}
 
 -- how the tokens of a source are spelled; beyond the last one nothing is
@@ -37,3 +40,8 @@ pub record AreLinks (spelled : Spelling) (occurrences : List Occurrence) (tokens
   pub roles : (n : ℕ) → n < tokens → role_at links n ≡ Some (role_of spelled occurrences n)
   pub no_more : (n : ℕ) → tokens ≤ n → role_at links n ≡ None
   pub binders : links.binders ≡ map binder_of (locals_of spelled occurrences)
+
+-- a fact of the fault that an error tells; none is asked of a want of memory
+abbrev pub IfBad : ScopeErr → (ScopeBad → Type 0) → Type 0
+IfBad (err.Bad bad) P = P bad
+IfBad err.Memory P = Unit {0}

@@ -2,7 +2,7 @@
 ghost use Rattle.std.specs.Prelude.{◌≡◌, ℕ, ◌<◌, ◌≤◌, ◌++◌, ◌∷◌, [], map, length, List, Some, IfOk, OnOk, slice_index_or, All, AllPairs};
 ghost use Rattle.luf_lex.specs.Cut.{IsCut};
 ghost use Rattle.luf_scope.specs.Links.{spelling_in};
-ghost use Rattle.luf_scope.specs.inner.Order.{place};
+ghost use Rattle.luf_scope.specs.Order.{place};
 ghost use Rattle.luf_scope.specs.inner.Scopes.{number_in, used_by, meant_by, meant_at};
 ghost use Rattle.luf_scope.specs.declared.scopes.Scope.{Scope};
 ghost use Rattle.luf_scope.specs.inner.Sweep.{IsSweep, AreRanged};
@@ -25,12 +25,12 @@ struct Sweep {
 }
 
 // What each occurrence means that names a variable; None for those that name none.
-pub fn meanings(
+pub fn meanings<'a>(
     alloc: Global,
-    src: &[u8],
+    src: &'a [u8],
     cut: &Cut,
     os: &[Occurrence],
-    names: &Names<'_>,
+    names: &Names<'a>,
     scopes: &[Scope],
 ) -> Result<Vec<Option<u32>>, Memory>
     requires cut { IsCut src.now cut.now }
@@ -88,12 +88,12 @@ fn empty_stacks(alloc: Global, count: usize) -> Result<Vec<Vec<Held<u32>>>, Memo
 
 impl Sweep {
     // What the name at a token means.
-    fn look_up(
+    fn look_up<'a>(
         &mut self,
-        src: &[u8],
+        src: &'a [u8],
         cut: &Cut,
         token: u32,
-        names: &Names<'_>,
+        names: &Names<'a>,
         scopes: &[Scope],
     ) -> Result<Option<u32>, Memory>
         requires cut { IsCut src.now cut.now }

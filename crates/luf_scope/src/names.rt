@@ -28,8 +28,8 @@ impl<'a> Names<'a> {
     }
 
     // The number of a name, if a local variable has it.
-    pub fn find(&self, name: &[u8]) -> Option<u32>
-        ensures { result ≡ number_in self.now.numbers name.now }
+    pub fn find(&self, name: &'a [u8]) -> Option<u32>
+        ensures { result ≡ number_in self.now.numbers name.entry.now }
     {
         self.numbers.get(&name).copied()
     }

@@ -20,12 +20,12 @@ pub struct Scope {
     pub to: u32,
 }
 
-pub fn scopes_of(
+pub fn scopes_of<'a>(
     alloc: Global,
-    src: &[u8],
+    src: &'a [u8],
     cut: &Cut,
     os: &[Occurrence],
-    names: &Names<'_>,
+    names: &Names<'a>,
 ) -> Result<Vec<Scope>, Memory>
     requires cut { IsCut src.now cut.now }
     requires few { length (locals_of (spelling_in src.now cut.now) os.now) < 2 ^ 32 }
