@@ -8,3 +8,5 @@ pub mod Places
 pub mod Ordered
 pub mod Holding
 pub mod Blocks
+pub mod Lasts
+pub mod Marked
