@@ -59,3 +59,11 @@ module _ {T : Type 0} (items : List (Held T)) (left place : ℕ) (held : Held T)
   found_again taken again are read holds kept =
       let same : again ≡ held = read ∙ ap (λ xs. get_or xs (left - 1) again) are ∙ get_or-take left items (left - 1) again (omega arith) ∙ get_or_default items (left - 1) again held (omega arith) ∙ sym is in
       ap (λ h. Some h.what) same ∙ found_on_top holds kept
+
+pub last_none : {A : Type 0} (test : A → Bool) (xs : List A) → All (λ x. test x ≡ false) xs → last_such test xs ≡ None
+last_none test [] none = refl
+last_none test (x ∷ xs) none = ap (λ o. option_or o (cond (test x) (Some x) None)) (last_none test xs (All-tail (λ y. test y ≡ false) x xs none)) ∙ cond_no (test x) (Some x) None (All-head (λ y. test y ≡ false) x xs none)
+
+pub last_same : {A : Type 0} (test other : A → Bool) (xs : List A) → All (λ x. test x ≡ other x) xs → last_such test xs ≡ last_such other xs
+last_same test other [] same = refl
+last_same test other (x ∷ xs) same = ap (λ o. option_or o (cond (test x) (Some x) None)) (last_same test other xs (All-tail (λ y. test y ≡ other y) x xs same)) ∙ ap (λ b. option_or (last_such other xs) (cond b (Some x) None)) (All-head (λ y. test y ≡ other y) x xs same)

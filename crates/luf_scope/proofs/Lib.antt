@@ -10,3 +10,4 @@ pub mod Holding
 pub mod Blocks
 pub mod Lasts
 pub mod Marked
+pub mod Swept

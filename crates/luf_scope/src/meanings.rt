@@ -1,5 +1,5 @@
 // What the variables of a chunk mean, in one sweep over its occurrences.
-ghost use Rattle.std.specs.Prelude.{◌≡◌, ℕ, ◌<◌, ◌≤◌, ◌++◌, ◌∷◌, [], map, length, List, Some, IfOk, OnOk, slice_index_or, All, AllPairs};
+ghost use Rattle.std.specs.Prelude.{◌≡◌, ℕ, ◌<◌, ◌≤◌, ◌++◌, ◌∷◌, [], map, length, List, Some, IfSome, IfOk, OnOk, slice_index_or, All, AllPairs};
 ghost use Rattle.luf_lex.specs.Cut.{IsCut};
 ghost use Rattle.luf_scope.specs.Links.{spelling_in};
 ghost use Rattle.luf_scope.specs.Order.{place};
@@ -45,18 +45,15 @@ pub fn meanings<'a>(
     };
     let mut found = Vec::new(alloc);
     for o in os {
-        let meaning = match used_by(*o) {
-            Some(name) => sweep.look_up(src, cut, name, names, scopes)?,
-            None => None,
-        };
-        found.push(meaning)?;
+        found.push(sweep.meaning_of(src, cut, *o, names, scopes)?)?;
     }
     Ok(found)
 }
 
 // The variable that an occurrence names.
 fn used_by(o: Occurrence) -> Option<u32>
-    ensures { result ≡ used_by o }
+    ensures used { result ≡ used_by o }
+    ensures place { IfSome result (λ name. name ≡ place o) }
 {
     match o {
         Occurrence::Reads(name) => Some(name),
@@ -87,6 +84,28 @@ fn empty_stacks(alloc: Global, count: usize) -> Result<Vec<Vec<Held<u32>>>, Memo
 }
 
 impl Sweep {
+    fn meaning_of<'a>(
+        &mut self,
+        src: &'a [u8],
+        cut: &Cut,
+        o: Occurrence,
+        names: &Names<'a>,
+        scopes: &[Scope],
+    ) -> Result<Option<u32>, Memory>
+        requires cut { IsCut src.now cut.now }
+        requires scopes { AreRanged (number_in names.now.numbers) scopes.now }
+        requires sweep { IsSweep scopes.now self.old.place self.old.entered self.old.stacks.items }
+        requires ahead { self.old.place ≤ place o }
+        ensures meaning { IfOk result (λ found. found ≡ meant_by (spelling_in src.now cut.now) (number_in names.now.numbers) scopes.now o) }
+        ensures sweep { OnOk result (IsSweep scopes.now self.new.place self.new.entered self.new.stacks.items) }
+        ensures place { OnOk result (self.new.place ≤ place o) }
+    {
+        match used_by(o) {
+            Some(name) => self.look_up(src, cut, name, names, scopes),
+            None => Ok(None),
+        }
+    }
+
     // What the name at a token means.
     fn look_up<'a>(
         &mut self,
