@@ -11,3 +11,5 @@ pub mod Blocks
 pub mod Lasts
 pub mod Marked
 pub mod Swept
+pub mod Mapped
+pub mod Numbered
