@@ -13,3 +13,4 @@ pub mod Marked
 pub mod Swept
 pub mod Mapped
 pub mod Numbered
+pub mod Begun

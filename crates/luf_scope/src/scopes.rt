@@ -1,8 +1,9 @@
 // The scopes of local variables in the order in which they begin.
-ghost use Rattle.std.specs.Prelude.{◌≡◌, ℕ, ◌<◌, ◌^◌, IfOk, length};
+ghost use Rattle.std.specs.Prelude.{◌≡◌, ℕ, ◌<◌, ◌^◌, IfOk, length, slice_index_or};
 ghost use Rattle.luf_lex.specs.Cut.{IsCut};
 ghost use Rattle.luf_scope.specs.Links.{spelling_in};
 ghost use Rattle.luf_scope.specs.Local.{locals_of};
+ghost use Rattle.luf_scope.specs.declared.scopes.Scope.{Scope};
 ghost use Rattle.luf_scope.specs.inner.Scopes.{number_in, scopes_from, AreInOrder};
 
 use crate::locals::declared_by;
@@ -50,6 +51,7 @@ pub fn scopes_of<'a>(
 
 // The scopes in the order in which they begin; of those that begin together the first declared is the first.
 pub fn in_order(scopes: Vec<Scope>) -> Result<Vec<Scope>, Memory>
+    requires { (i : ℕ) (d : Scope) → i < length scopes.items → (slice_index_or scopes.items i d).local ≡ i }
     ensures { IfOk result (λ sorted. AreInOrder scopes.items sorted.items) }
 {
     let mut sorted = scopes;
