@@ -3,3 +3,4 @@ pub mod Parts
 pub mod Last
 pub mod Scopes
 pub mod Sweep
+pub mod Laid

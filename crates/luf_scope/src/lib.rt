@@ -3,6 +3,7 @@
 
 mod adding;
 mod binder;
+mod checks;
 mod fault;
 mod jump;
 mod laws;
@@ -13,6 +14,7 @@ mod meanings;
 mod names;
 mod occurrence;
 mod reading;
+mod roles;
 mod scopes;
 mod stacks;
 
