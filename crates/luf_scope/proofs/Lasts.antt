@@ -67,3 +67,7 @@ last_none test (x ∷ xs) none = ap (λ o. option_or o (cond (test x) (Some x) N
 pub last_same : {A : Type 0} (test other : A → Bool) (xs : List A) → All (λ x. test x ≡ other x) xs → last_such test xs ≡ last_such other xs
 last_same test other [] same = refl
 last_same test other (x ∷ xs) same = ap (λ o. option_or o (cond (test x) (Some x) None)) (last_same test other xs (All-tail (λ y. test y ≡ other y) x xs same)) ∙ ap (λ b. option_or (last_such other xs) (cond b (Some x) None)) (All-head (λ y. test y ≡ other y) x xs same)
+
+pub map_cond : {A B : Type 0} (f : A → B) (b : Bool) (x : A) (o : Option A) → option_map f (cond b (Some x) o) ≡ cond b (Some (f x)) (option_map f o)
+map_cond f true x o = refl
+map_cond f false x o = refl

@@ -14,3 +14,5 @@ pub mod Swept
 pub mod Mapped
 pub mod Numbered
 pub mod Begun
+pub mod Firsts
+pub mod Functions

@@ -12,7 +12,7 @@ use Rattle.luf_scope.specs.declared.stacks.Held.{Held}
 use Rattle.luf_scope.specs.inner.Last.{last_such, outlasts}
 use Rattle.luf_scope.specs.inner.Scopes.{is_meant, meant_at}
 use Rattle.luf_scope.specs.inner.Sweep.{IsSweep, stack_at, reaches}
-use Rattle.luf_scope.proofs.Lasts.{last_append, last_snoc, last_take, last_none, last_same}
+use Rattle.luf_scope.proofs.Lasts.{last_append, last_snoc, last_take, last_none, last_same, map_cond}
 
 pub stack_read : (stacks : List (Vec (Held ℕ))) (k : ℕ) (d : Vec (Held ℕ)) → k < length stacks → stack_at stacks k ≡ (get_or stacks k d).items
 stack_read stacks k d inside = ap (λ o. option_map_or (λ v. v.items) o []) (slice_get-get_or stacks k d inside)
@@ -28,10 +28,6 @@ stack_kept stacks n k new apart = elim (cases_lt k (length stacks)) [
   | inl inside ↦ stack_read (slice_set stacks n new) k new (omega (arith, length-set stacks n new)) ∙ ap (λ v. v.items) (get_or-set_other stacks n k new new apart) ∙ sym (stack_read stacks k new inside)
   | inr past ↦ stack_past (slice_set stacks n new) k (omega (arith, length-set stacks n new)) ∙ sym (stack_past stacks k past)
 ]
-
-map_cond : {A B : Type 0} (f : A → B) (b : Bool) (x : A) (o : Option A) → option_map f (cond b (Some x) o) ≡ cond b (Some (f x)) (option_map f o)
-map_cond f true x o = refl
-map_cond f false x o = refl
 
 equal_or_not : (a b : ℕ) → (a ≡ b) ⊎ (a ≢ b)
 equal_or_not a b = elim (cases_lt a b) [

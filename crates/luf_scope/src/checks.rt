@@ -1,14 +1,14 @@
 // The faults of names, each word by itself.
-ghost use Rattle.std.specs.Prelude.{◌≡◌, ℕ, ◌≤◌, Bool, Option, Some, List, ◌++◌, IfOk, OnOk, map};
-ghost use Rattle.std.specs.Option.{option_to_list};
+ghost use Rattle.std.specs.Prelude.{◌≡◌, ℕ, ◌≤◌, Bool, Option, Some, List, [], ◌∷◌, ◌++◌, IfOk, OnOk, map, slice_get, false};
+ghost use Rattle.std.specs.Option.{option_to_list, option_map_or, option_and_then};
 ghost use Rattle.luf_lex.specs.Cut.{IsCut};
 ghost use Rattle.luf_scope.specs.Fault as fault;
 ghost use Rattle.luf_scope.specs.Links.{spelling_in};
-ghost use Rattle.luf_scope.specs.Local.{Spelling, FunctionAt, locals_of, binder_of, function_by};
+ghost use Rattle.luf_scope.specs.Local.{Spelling, LocalVariable, FunctionAt, locals_of, binder_of, function_by};
 ghost use Rattle.luf_scope.specs.Order.{place};
 ghost use Rattle.luf_scope.specs.declared.occurrence.Occurrence.{Occurrence};
 ghost use Rattle.luf_scope.specs.inner.Laid as laid;
-ghost use Rattle.luf_scope.specs.inner.Laid.{AreLaid, first_at, Tells, varargs_among};
+ghost use Rattle.luf_scope.specs.inner.Laid.{AreLaid, first_at, Tells, varargs_among, AreEnds, second_among};
 ghost use Rattle.luf_scope.specs.inner.Scopes.{meaning_of};
 
 use crate::locals::spelled;
@@ -66,14 +66,33 @@ pub fn first_second_close(
 {
     let mut ends = BTreeSet::new(alloc);
     for o in os {
-        if let Some((token, end)) = close_of(src, cut, *o) {
-            if !ends.insert(end)? {
-                let what = ScopeWhat::TwoClose;
-                return Ok(Some(ScopeBad { token, what }));
-            }
+        if let Some(token) = close_again(src, cut, *o, &mut ends)? {
+            let what = ScopeWhat::TwoClose;
+            return Ok(Some(ScopeBad { token, what }));
         }
     }
     Ok(None)
+}
+
+// A `close` of whose statement there was one before; the ends of the statements that have one are kept.
+fn close_again(
+    src: &[u8],
+    cut: &Cut,
+    o: Occurrence,
+    ends: &mut BTreeSet<u32>,
+) -> Result<Option<u32>, Memory>
+    requires { IsCut src.now cut.now }
+    ensures found { (done : List Occurrence) → AreEnds (spelling_in src.now cut.now) ends.old done → IfOk result (λ found. found ≡ second_among (spelling_in src.now cut.now) done o) }
+    ensures kept { (done : List Occurrence) → AreEnds (spelling_in src.now cut.now) ends.old done → OnOk result (AreEnds (spelling_in src.now cut.now) ends.new (done ++ o ∷ [])) }
+{
+    let Some((token, end)) = close_of(src, cut, o) else {
+        return Ok(None);
+    };
+    if ends.insert(end)? {
+        Ok(None)
+    } else {
+        Ok(Some(token))
+    }
 }
 
 // A `close`, with the end of its statement.
@@ -130,6 +149,7 @@ fn constant_assigned(o: Occurrence, meaning: Option<u32>, binders: &[Binder]) ->
 }
 
 fn is_constant(meaning: Option<u32>, binders: &[Binder]) -> bool
+    ensures { (locals : List LocalVariable) → binders.now ≡ map binder_of locals → result ≡ option_map_or fault.is_constant (option_and_then (slice_get locals) meaning) false }
 {
     match meaning {
         Some(local) => match binders.get(local as usize) {

@@ -1,7 +1,9 @@
 -- Occurrences one behind another, and what is read off them in their order.
 use Rattle.std.specs.Prelude.{◌≡◌, ℕ, ◌+◌, ◌<◌, ◌≤◌, Bool, false, not, cond, Option, Some, None, List, [], ◌∷◌, nat_eq, nat_lt, bytes_eq, codes, All, AllPairs, if◌then◌else◌}
-use Rattle.std.specs.List.{cons_option}
-use Rattle.std.specs.Option.{option_or, option_map, option_map_or}
+use Rattle.std.specs.BTreeSet.{BTreeSet, contains}
+use Rattle.std.specs.List.{cons_option, list_any}
+use Rattle.std.specs.Option.{option_or, option_map, option_map_or, option_and_then}
+use Rattle.std.specs.Ordering.{nat_cmp}
 use Rattle.luf_scope.specs.Local.{Spelling, FunctionAt}
 use Rattle.luf_scope.specs.Order.{place, behind, is_loop, declares}
 use Rattle.luf_scope.specs.Role.{reference}
@@ -31,6 +33,14 @@ close_of spelled _ = None
 
 abbrev pub closes_at : Spelling → ℕ → Occurrence → Bool
 closes_at spelled end o = option_map_or (λ c. nat_eq c.1 end) (close_of spelled o) false
+
+-- the ends of the statements that have a `close`
+pub record AreEnds (spelled : Spelling) (ends : BTreeSet ℕ) (os : List Occurrence) : Type 0 where
+  pub are : (end : ℕ) → contains nat_cmp ends end ≡ list_any (closes_at spelled end) os
+
+-- a `close` behind another of its statement
+abbrev pub second_among : Spelling → List Occurrence → Occurrence → Option ℕ
+second_among spelled os o = option_and_then (λ c. cond (list_any (closes_at spelled c.1) os) (Some c.0) None) (close_of spelled o)
 
 -- of the functions that reach beyond a place, a stack tells of the last whether it takes `...`
 abbrev pub Tells : List (Held Bool) → List FunctionAt → ℕ → Type 0
