@@ -14,7 +14,8 @@ use Rattle.luf_scope.specs.declared.stacks.Held.{Held}
 use Rattle.luf_scope.specs.inner.Last.{last_such, outlasts}
 use Rattle.luf_scope.specs.inner.Laid.{AreLaid, Tells, varargs_among}
 use Rattle.luf_scope.proofs.Lasts.{last_append, last_snoc, last_none, last_same, map_cond}
-use Rattle.luf_scope.proofs.Mapped.{dropped, pair_at}
+use Rattle.luf_scope.proofs.Laying.{all_filter_map, all_before, all_behind}
+use Rattle.luf_scope.proofs.Mapped.{dropped}
 
 -- one more function
 pub tells_more : (stack new : List (Held Bool)) (begun : List FunctionAt) (later from to : ℕ) (vararg : Bool) → new ≡ stack ++ record { what = vararg; to = to } ∷ [] → Tells stack begun later → Tells new (begun ++ record { from = from; to = to; vararg = vararg } ∷ []) later
@@ -28,21 +29,6 @@ tells_more stack new begun later from to vararg is tells =
 
 pub tells_function : (stack new : List (Held Bool)) (begun : List FunctionAt) (later from to : ℕ) (vararg : Bool) (o : Occurrence) → o ≡ Function from to vararg → new ≡ stack ++ record { what = vararg; to = to } ∷ [] → Tells stack begun later → Tells new (begun ++ option_to_list (function_by o)) later
 tells_function stack new begun later from to vararg o is pushed tells = subst (λ u. Tells new (begun ++ option_to_list (function_by u)) later) (sym is) (tells_more stack new begun later from to vararg pushed tells)
-
--- a loop stands at the first token of its block and has none of its own
-pub place_le_behind : (u : Occurrence) → (is_loop u ≡ false → place u < behind u) → place u ≤ behind u
-place_le_behind (Loop from to) stands = omega arith
-place_le_behind (Local name (Some attribute) from to) stands = omega (arith, stands refl)
-place_le_behind (Local name None from to) stands = omega (arith, stands refl)
-place_le_behind u stands = omega (arith, stands refl)
-
-cons_if : {Y : Type 0} (P : Y → Type 0) (o : Option Y) (ys : List Y) → IfSome o P → All P ys → All P (cons_option o ys)
-cons_if P None ys here rest = rest
-cons_if P (Some y) ys here rest = All-cons P y ys here rest
-
-pub all_filter_map : {X Y : Type 0} (f : X → Option Y) (P : Y → Type 0) (xs : List X) → All (λ x. IfSome (f x) P) xs → All P (filter_map f xs)
-all_filter_map f P [] each = All-nil P
-all_filter_map f P (x ∷ xs) each = cons_if P (f x) (filter_map f xs) (All-head (λ y. IfSome (f y) P) x xs each) (all_filter_map f P xs (All-tail (λ y. IfSome (f y) P) x xs each))
 
 -- the last that passes, by its number and by itself
 data LastAt {A : Type 0} (n : ℕ) (xs : List A) : Option ℕ → Option A → Type 0 where
@@ -66,21 +52,6 @@ pub last_by_number : {A : Type 0} (test : A → Bool) (xs : List A) → option_a
 last_by_number test xs = read_last xs (last_passing test 0 xs) (last_such test xs) (last_at test 0 xs)
 
 module _ (os : List Occurrence) (i : ℕ) (laid : AreLaid os) (inside : i < length os) where
-  -- all before a place of the list stand before it
-  pub all_before : (d : Occurrence) → All (λ u. place u ≤ place (get_or os i d)) (take i os)
-  all_before d j e within =
-      let low : j < i = omega (arith, length-take-le i os (omega arith)) in
-      let at : get_or (take i os) j e ≡ get_or os j e = get_or-take i os j e low in
-      let long : place (get_or os j e) ≤ behind (get_or os j e) = place_le_behind (get_or os j e) (laid.stands j e (omega arith)) in
-      let on : behind (get_or os j e) ≤ place (get_or os i d) = pair_at (λ u v. behind u ≤ place v) os j i e d laid.later low inside in
-      subst (λ u. place u ≤ place (get_or os i d)) (sym at) (omega arith)
-
-  -- and all behind it stand behind it
-  pub all_behind : (d : Occurrence) → All (λ u. behind (get_or os i d) ≤ place u) (drop (i + 1) os)
-  all_behind d j e within =
-      let far : i + 1 + j < length os = omega (arith, length-drop (i + 1) os) in
-      subst (λ u. behind (get_or os i d) ≤ place u) (sym (get_or-drop (i + 1) os j e)) (pair_at (λ u v. behind u ≤ place v) os i (i + 1 + j) d e laid.later (omega arith) far)
-
   -- the function that holds a `...` has begun
   module _ (d : Occurrence) (token : ℕ) (here : get_or os i d ≡ Varargs token) where
     begun : (u : Occurrence) → place u ≤ token → IfSome (function_by u) (λ f. is_held token f ≡ nat_lt token f.to)
@@ -96,13 +67,13 @@ module _ (os : List Occurrence) (i : ℕ) (laid : AreLaid os) (inside : i < leng
         let split : functions_of os ≡ functions_of (take i os) ++ functions_of (drop i os) = ap functions_of (sym (take-append-drop i os)) ∙ filter_map-append function_by (take i os) (drop i os) in
         let after : functions_of (drop i os) ≡ functions_of (drop (i + 1) os) = ap functions_of (dropped os i d inside ∙ ap (λ u. u ∷ drop (i + 1) os) here) in
         let none : last_such (is_held token) (functions_of (drop (i + 1) os)) ≡ None = last_none (is_held token) (functions_of (drop (i + 1) os)) (all_filter_map function_by (λ f. is_held token f ≡ false) (drop (i + 1) os)
-            (λ j e within. unbegun (get_or (drop (i + 1) os) j e) (let b : behind (get_or os i d) ≤ place (get_or (drop (i + 1) os) j e) = all_behind d j e within in let n : behind (get_or os i d) ≡ token + 1 = ap behind here in omega arith))) in
+            (λ j e within. unbegun (get_or (drop (i + 1) os) j e) (let b : behind (get_or os i d) ≤ place (get_or (drop (i + 1) os) j e) = all_behind os i laid inside d j e within in let n : behind (get_or os i d) ≡ token + 1 = ap behind here in omega arith))) in
         ap (last_such (is_held token)) split
         ∙ last_append (is_held token) (functions_of (take i os)) (functions_of (drop i os))
         ∙ ap (λ fs. option_or (last_such (is_held token) fs) (last_such (is_held token) (functions_of (take i os)))) after
         ∙ ap (λ o. option_or o (last_such (is_held token) (functions_of (take i os)))) none
         ∙ last_same (is_held token) (λ f. nat_lt token f.to) (functions_of (take i os)) (all_filter_map function_by (λ f. is_held token f ≡ nat_lt token f.to) (take i os)
-            (λ j e within. begun (get_or (take i os) j e) (let b : place (get_or (take i os) j e) ≤ place (get_or os i d) = all_before d j e within in let n : place (get_or os i d) ≡ token = ap place here in omega arith)))
+            (λ j e within. begun (get_or (take i os) j e) (let b : place (get_or (take i os) j e) ≤ place (get_or os i d) = all_before os i laid inside d j e within in let n : place (get_or os i d) ≡ token = ap place here in omega arith)))
 
   same_at : (spelled : Spelling) (d o : Occurrence) → get_or os i d ≡ o → varargs_among (functions_of (take i os)) o ≡ fault.varargs_outside spelled os o
   same_at spelled d (Varargs token) here = ap (λ f. cond (option_map_or (λ f. not f.vararg) f false) (Some token) None) (sym (held_by_begun d token here) ∙ sym (last_by_number (is_held token) (functions_of os)))

@@ -16,3 +16,5 @@ pub mod Numbered
 pub mod Begun
 pub mod Firsts
 pub mod Functions
+pub mod Laying
+pub mod Closes
