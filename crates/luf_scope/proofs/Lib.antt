@@ -18,3 +18,4 @@ pub mod Firsts
 pub mod Functions
 pub mod Laying
 pub mod Closes
+pub mod Roled
