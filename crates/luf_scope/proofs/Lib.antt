@@ -9,3 +9,14 @@ pub mod Ordered
 pub mod Holding
 pub mod Blocks
 pub mod Trails
+pub mod Lasts
+pub mod Marked
+pub mod Swept
+pub mod Mapped
+pub mod Numbered
+pub mod Begun
+pub mod Firsts
+pub mod Functions
+pub mod Laying
+pub mod Closes
+pub mod Roled

@@ -3,14 +3,24 @@
 
 mod adding;
 mod binder;
+mod checks;
 mod fault;
 mod holders;
 mod jump;
 mod links;
 mod marks;
 mod laws;
+mod laws;
+mod links;
+mod locals;
+mod marks;
+mod meanings;
+mod names;
 mod occurrence;
 mod reading;
+mod roles;
+mod scopes;
+mod stacks;
 
 pub use binder::{Binder, BinderKind, Role};
 pub use fault::{ScopeBad, ScopeErr, ScopeWhat, first_of};
@@ -18,6 +28,8 @@ pub use holders::{Extent, Spot, last_holders};
 pub use jump::JumpRole;
 pub use links::Links;
 pub use laws::{label_blocks_are_nested, occurrences_are_ordered};
+pub use laws::{label_blocks_are_nested, occurrences_are_ordered};
+pub use links::Links;
 pub use luf_memory::Memory;
 pub use marks::Marks;
 pub use occurrence::Occurrence;
