@@ -5,9 +5,9 @@ use Rattle.std.proofs.lemmas.List.{get_or-map, at_drop_more}
 use Rattle.std.specs.List.{list_any}
 use Rattle.std.specs.Option.{option_or, is_some}
 use Rattle.luf_scope.specs.Local.{last_passing}
-use Rattle.luf_scope.specs.declared.holders.Extent.{Extent}
-use Rattle.luf_scope.specs.declared.holders.Spot.{Spot}
-use Rattle.luf_scope.specs.Holders.{holds, last_holding, one_higher, spot_at}
+use Rattle.luf_goto.specs.declared.holders.Extent.{Extent}
+use Rattle.luf_goto.specs.declared.holders.Spot.{Spot}
+use Rattle.luf_goto.specs.inner.Holders.{holds, last_holding, one_higher, spot_at}
 use Rattle.luf_goto.specs.inner.Firsts.{first_where, is_held, is_wanted}
 
 some_passes : {A : Type 0} (test : A → Bool) (n : ℕ) (xs : List A) → is_some (last_passing test n xs) ≡ list_any test xs

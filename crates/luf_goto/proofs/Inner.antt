@@ -9,9 +9,9 @@ use Rattle.std.specs.List.{Contains, slice_get}
 use Rattle.std.specs.List.Sorted.{IsNonDecreasingBy, IsPermutation}
 use Rattle.std.specs.Option.{option_or}
 use Rattle.luf_scope.specs.Local.{last_passing}
-use Rattle.luf_scope.specs.declared.holders.Extent.{Extent}
-use Rattle.luf_scope.specs.declared.holders.Spot.{Spot}
-use Rattle.luf_scope.specs.Holders.{holds, last_holding, one_higher, nowhere, extent_at, spot_at}
+use Rattle.luf_goto.specs.declared.holders.Extent.{Extent}
+use Rattle.luf_goto.specs.declared.holders.Spot.{Spot}
+use Rattle.luf_goto.specs.inner.Holders.{holds, last_holding, one_higher, nowhere, extent_at, spot_at}
 use Rattle.luf_goto.proofs.Lists.{map_through}
 use Rattle.luf_goto.specs.inner.Innermost.{key_of, extent_numbered, IsInnermost, AreInnermost}
 

@@ -9,9 +9,9 @@ use Rattle.luf_scope.specs.Order.{place, behind, is_loop, AreOrdered}
 use Rattle.luf_scope.proofs.Ordered.{all_given, pairs_given}
 use Rattle.luf_scope.specs.declared.occurrence.Occurrence.{Occurrence}
 use Rattle.luf_scope.specs.declared.occurrence.Occurrence.TheVariants.{Function, Loop, Label, Goto, Break}
-use Rattle.luf_scope.specs.declared.holders.Extent.{Extent}
-use Rattle.luf_scope.specs.declared.holders.Spot.{Spot}
-use Rattle.luf_scope.specs.Holders.{holds, last_holding, one_higher}
+use Rattle.luf_goto.specs.declared.holders.Extent.{Extent}
+use Rattle.luf_goto.specs.declared.holders.Spot.{Spot}
+use Rattle.luf_goto.specs.inner.Holders.{holds, last_holding, one_higher}
 use Rattle.luf_goto.specs.inner.Sites.{IsInOrder, home_of, stop_at, function_extent}
 use Rattle.luf_goto.proofs.Lists.{given_more, rising_pairs, rising_map, map_through}
 

@@ -1,4 +1,5 @@
 -- What only private functions cite, so that nothing here has to be believed.
+pub mod Holders
 pub mod Sites
 pub mod Names
 pub mod Innermost

@@ -4,7 +4,7 @@ ghost use Rattle.std.specs.List.Sorted.{IsNonDecreasingBy};
 ghost use Rattle.luf_goto.specs.inner.Firsts.{first_where, is_held, is_wanted};
 
 use crate::Memory;
-use luf_scope::{Extent, Spot, last_holders};
+use crate::holders::{Extent, Spot, last_holders};
 use std::alloc::Global;
 
 pub fn first_spot(

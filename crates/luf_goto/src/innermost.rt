@@ -4,7 +4,7 @@ ghost use Rattle.std.specs.List.Sorted.{IsNonDecreasingBy, IsPermutation};
 ghost use Rattle.luf_goto.specs.inner.Innermost.{key_of, extent_numbered, AreInnermost};
 
 use crate::Memory;
-use luf_scope::{Extent, Spot, last_holders};
+use crate::holders::{Extent, Spot, last_holders};
 use std::alloc::Global;
 
 // For each spot, of the extents of its class that hold it the one that begins last; of those that begin at one place, the

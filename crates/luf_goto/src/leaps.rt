@@ -3,7 +3,7 @@ ghost use Rattle.std.specs.Prelude.{◌≡◌, ◌<◌, length, All, IfSome, is_
 ghost use Rattle.luf_goto.specs.inner.Leaps.{first_failing, has_none, enters_scope, is_apart};
 
 use crate::sites::{GotoRow, LabelRow};
-use luf_scope::Extent;
+use crate::holders::Extent;
 
 // The first goto that has no target, by its token.
 pub fn first_missing(gotos: &[GotoRow], targets: &[Option<u32>]) -> Option<u32>

@@ -3,6 +3,7 @@
 
 mod faults;
 mod firsts;
+mod holders;
 mod innermost;
 mod jumps;
 mod leaps;

@@ -5,7 +5,7 @@ ghost use Rattle.luf_goto.specs.inner.Firsts.{first_where, is_held};
 
 use crate::Memory;
 use crate::firsts::first_spot;
-use luf_scope::{Extent, Spot};
+use crate::holders::{Extent, Spot};
 use std::alloc::Global;
 
 // The first of them, by its token. The class of a loop and of a break is the number of its function, the highest of which

@@ -8,7 +8,8 @@ ghost use Rattle.luf_goto.specs.inner.Rows.{scope_extent, scope_spot};
 use crate::Memory;
 use crate::innermost::innermost;
 use crate::sites::LabelRow;
-use luf_scope::{Extent, Occurrence, Spot};
+use crate::holders::{Extent, Spot};
+use luf_scope::Occurrence;
 use std::alloc::Global;
 
 // Of those that begin at one place the one that ends first.

@@ -6,7 +6,8 @@ ghost use Rattle.luf_scope.specs.Order as order;
 ghost use Rattle.luf_goto.specs.inner.Sites.{IsInOrder, home_of, stop_at, function_extent, label_in, goto_in, loop_in, break_in, label_row, goto_row, loop_extent, break_spot};
 
 use crate::Memory;
-use luf_scope::{Extent, Occurrence, Spot, last_holders};
+use crate::holders::{Extent, Spot, last_holders};
+use luf_scope::Occurrence;
 use std::alloc::Global;
 
 // A label: the token of its name, the number of its function, or later of its name in that function, its block, and

@@ -6,7 +6,7 @@ ghost use Rattle.luf_goto.specs.inner.Rows.{block_extents, goto_spot, target_of,
 use crate::Memory;
 use crate::innermost::innermost;
 use crate::sites::{GotoRow, LabelRow};
-use luf_scope::{Extent, Spot};
+use crate::holders::{Extent, Spot};
 use std::alloc::Global;
 
 // Its number, where a goto sees a label of its name.

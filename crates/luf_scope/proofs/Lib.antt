@@ -8,7 +8,6 @@ pub mod Places
 pub mod Ordered
 pub mod Holding
 pub mod Blocks
-pub mod Trails
 pub mod Lasts
 pub mod Marked
 pub mod Swept

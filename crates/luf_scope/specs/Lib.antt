@@ -1,5 +1,4 @@
 pub mod Fault
-pub mod Holders
 pub mod Links
 pub mod Local
 pub mod Jump

@@ -1,9 +1,9 @@
 -- The first spot of those that pass a test.
 use Rattle.std.specs.Prelude.{ℕ, Bool, true, false, not, cond, nat_lt, Option, Some, None, List, [], ◌∷◌}
 use Rattle.std.specs.List.{list_any}
-use Rattle.luf_scope.specs.Holders.{holds}
-use Rattle.luf_scope.specs.declared.holders.Extent.{Extent}
-use Rattle.luf_scope.specs.declared.holders.Spot.{Spot}
+use Rattle.luf_goto.specs.inner.Holders.{holds}
+use Rattle.luf_goto.specs.declared.holders.Extent.{Extent}
+use Rattle.luf_goto.specs.declared.holders.Spot.{Spot}
 
 -- its place
 abbrev pub first_where : (Spot → Bool) → List Spot → Option ℕ

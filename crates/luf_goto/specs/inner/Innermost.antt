@@ -1,9 +1,9 @@
 -- Of the extents that hold a spot, the innermost.
 use Rattle.std.specs.Prelude.{◌≡◌, ℕ, ◌+◌, ◌-◌, ◌*◌, ◌^◌, ◌<◌, ◌≤◌, Bool, true, false, Option, Some, None, List, length, slice_get, slice_index_or, nat_eq, if◌then◌else◌}
 use Rattle.std.specs.List.{Contains}
-use Rattle.luf_scope.specs.declared.holders.Extent.{Extent}
-use Rattle.luf_scope.specs.declared.holders.Spot.{Spot}
-use Rattle.luf_scope.specs.Holders.{holds, extent_at, spot_at}
+use Rattle.luf_goto.specs.declared.holders.Extent.{Extent}
+use Rattle.luf_goto.specs.declared.holders.Spot.{Spot}
+use Rattle.luf_goto.specs.inner.Holders.{holds, extent_at, spot_at}
 
 -- the order of extents: by their beginnings, and at one place by their ranks
 abbrev pub key_of : Extent → ℕ

@@ -4,11 +4,11 @@ use Rattle.luf_scope.specs.Local.{functions_of, function_of}
 use Rattle.luf_scope.specs.Order.{place, AreOrdered}
 use Rattle.luf_scope.specs.declared.occurrence.Occurrence.{Occurrence}
 use Rattle.luf_scope.specs.declared.occurrence.Occurrence.TheVariants.{Function, Loop, Label, Goto, Break}
-use Rattle.luf_scope.specs.declared.holders.Extent.{Extent}
-use Rattle.luf_scope.specs.declared.holders.Spot.{Spot}
+use Rattle.luf_goto.specs.declared.holders.Extent.{Extent}
+use Rattle.luf_goto.specs.declared.holders.Spot.{Spot}
 use Rattle.luf_goto.specs.declared.sites.LabelRow.{LabelRow}
 use Rattle.luf_goto.specs.declared.sites.GotoRow.{GotoRow}
-use Rattle.luf_scope.specs.Holders.{one_higher}
+use Rattle.luf_goto.specs.inner.Holders.{one_higher}
 
 -- the occurrences of a chunk of so many tokens, in order
 pub record IsInOrder (occurrences : List Occurrence) : Type 0 where

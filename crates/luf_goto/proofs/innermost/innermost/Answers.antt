@@ -1,7 +1,7 @@
 use Rattle.std.proofs.Common.{◌≡◌, ◌<◌, ◌∙◌, ◌^◌, Option, List, All, map, sym, ap, subst}
 use Rattle.std.proofs.lemmas.Result.{IfOk-weaker}
 use Rattle.std.proofs.lemmas.List.Sorted.{All-permutation}
-use Rattle.luf_scope.specs.declared.holders.Extent.{Extent}
+use Rattle.luf_goto.specs.declared.holders.Extent.{Extent}
 use Rattle.luf_goto.specs.inner.Innermost.{extent_numbered}
 use Rattle.luf_goto.proofs.Inner.{sorted_by_from, innermost_is}
 use Rattle.luf_goto.proofs.innermost.innermost.Goals as goal

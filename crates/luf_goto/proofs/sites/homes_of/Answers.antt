@@ -4,9 +4,9 @@ use Rattle.std.specs.List.Sorted.{IsNonDecreasingBy}
 use Rattle.std.proofs.lemmas.Result.{IfOk-weaker}
 use Rattle.std.proofs.lemmas.List.Elements.{All-same, All-map}
 use Rattle.luf_scope.specs.Order.{place}
-use Rattle.luf_scope.specs.declared.holders.Extent.{Extent}
-use Rattle.luf_scope.specs.declared.holders.Spot.{Spot}
-use Rattle.luf_scope.specs.Holders.{last_holding, one_higher}
+use Rattle.luf_goto.specs.declared.holders.Extent.{Extent}
+use Rattle.luf_goto.specs.declared.holders.Spot.{Spot}
+use Rattle.luf_goto.specs.inner.Holders.{last_holding, one_higher}
 use Rattle.luf_goto.specs.inner.Sites.{home_of, stop_at, function_extent}
 use Rattle.luf_goto.proofs.Places.{functions_sorted, functions_in_one, stops_rise, homes_found}
 use Rattle.luf_goto.proofs.sites.homes_of.Goals as goal

@@ -2,8 +2,8 @@ use Rattle.std.proofs.Common.{◌≡◌, ◌∙◌, ◌^◌, ◌<◌, Option, Li
 use Rattle.std.specs.List.Sorted.{IsNonDecreasingBy}
 use Rattle.std.proofs.lemmas.List.Elements.{All-map}
 use Rattle.std.proofs.lemmas.Result.{IfOk-weaker}
-use Rattle.luf_scope.specs.declared.holders.Extent.{Extent}
-use Rattle.luf_scope.specs.declared.holders.Spot.{Spot}
+use Rattle.luf_goto.specs.declared.holders.Extent.{Extent}
+use Rattle.luf_goto.specs.declared.holders.Spot.{Spot}
 use Rattle.luf_goto.specs.inner.Rows.{goto_spot, target_of}
 use Rattle.luf_goto.proofs.Blocks.{block_ranks, block_classes, targets_are}
 use Rattle.luf_goto.proofs.Lists.{rising_mapped}

@@ -1,8 +1,8 @@
 use Rattle.std.proofs.Common.{◌≤◌, arith, rules}
 use Rattle.std.proofs.lemmas.Grind.{common_steps}
-use Rattle.luf_scope.specs.Holders.{spot_at}
-use Rattle.luf_scope.proofs.Trails.{trail_later}
-use Rattle.luf_scope.proofs.holders.last_holders.Goals as goal
+use Rattle.luf_goto.specs.inner.Holders.{spot_at}
+use Rattle.luf_goto.proofs.Trails.{trail_later}
+use Rattle.luf_goto.proofs.holders.last_holders.Goals as goal
 
 pub last_holder-requires-clause-trail : goal.last_holder-requires-clause-trail
 last_holder-requires-clause-trail c = c.loop-s.invariant.trail c.loop-s.s-index (omega arith) (omega arith)

@@ -1,13 +1,13 @@
 // Of many extents, the last that holds a place.
 ghost use Rattle.std.specs.Prelude.{◌≡◌, ℕ, ◌+◌, ◌<◌, ◌≤◌, ◌^◌, length, map, vec_len, IfOk, All};
 ghost use Rattle.std.specs.List.Sorted.{IsNonDecreasingBy};
-ghost use Rattle.luf_scope.specs.Holders.{last_holding, one_higher, extent_at, IsTrail, IsBound};
+ghost use Rattle.luf_goto.specs.inner.Holders.{last_holding, one_higher, extent_at, IsTrail, IsBound};
 
 use crate::Memory;
 use std::alloc::Global;
 
-/// The tokens from `from` up to `to`. Only extents of one class are looked for together; the rank is the caller's own.
-#[derive(Clone, Copy, Debug, PartialEq, Eq)]
+// The tokens from `from` up to `to`. Only extents of one class are looked for together; the rank is the caller's own.
+#[derive(Clone, Copy)]
 pub struct Extent {
     pub class: u32,
     pub from: u32,
@@ -15,8 +15,8 @@ pub struct Extent {
     pub rank: u32,
 }
 
-/// A place, and the class of the extents that are looked for there.
-#[derive(Clone, Copy, Debug, PartialEq, Eq)]
+// A place, and the class of the extents that are looked for there.
+#[derive(Clone, Copy)]
 pub struct Spot {
     pub class: u32,
     pub place: u32,
@@ -96,9 +96,9 @@ impl Trail {
     }
 }
 
-/// Of the extents, in the order in which they begin, the last one of its class that holds each spot, where the places of
-/// the spots do not fall. Each number is one higher, and 0 is none. The only error is that no memory was found, or that
-/// there are more extents than numbers. Time and memory are linear.
+// Of the extents, in the order in which they begin, the last one of its class that holds each spot, where the places of
+// the spots do not fall. Each number is one higher, and 0 is none. The only error is that no memory was found, or that
+// there are more extents than numbers. Time and memory are linear.
 pub fn last_holders(
     alloc: Global,
     extents: &[Extent],

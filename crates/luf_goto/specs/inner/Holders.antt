@@ -1,8 +1,8 @@
 -- Of many extents, the last that holds a place.
 use Rattle.std.specs.Prelude.{◌≡◌, ℕ, ◌+◌, ◌<◌, ◌≤◌, ◌⊎◌, Bool, ◌&&◌, Option, Some, None, List, length, slice_index, slice_index_or, suc, nat_le, nat_lt, nat_eq}
 use Rattle.luf_scope.specs.Local.{last_passing}
-use Rattle.luf_scope.specs.declared.holders.Extent.{Extent}
-use Rattle.luf_scope.specs.declared.holders.Spot.{Spot}
+use Rattle.luf_goto.specs.declared.holders.Extent.{Extent}
+use Rattle.luf_goto.specs.declared.holders.Spot.{Spot}
 
 -- an extent of the class of a spot, that holds its place
 abbrev pub holds : Spot → Extent → Bool

@@ -1,7 +1,7 @@
 use Rattle.std.proofs.Common.{arith}
-use Rattle.luf_scope.proofs.Trails.{found_is}
-use Rattle.luf_scope.proofs.holders.Trail.last_holder.Goals as goal
-use Rattle.luf_scope.proofs.holders.Trail.last_holder.Goals.{then-loop-self-test+else-extents-self, else-loop-self-test}
+use Rattle.luf_goto.proofs.Trails.{found_is}
+use Rattle.luf_goto.proofs.holders.Trail.last_holder.Goals as goal
+use Rattle.luf_goto.proofs.holders.Trail.last_holder.Goals.{then-loop-self-test+else-extents-self, else-loop-self-test}
 
 pub returns-clause-found : goal.returns-clause-found
 returns-clause-found c =

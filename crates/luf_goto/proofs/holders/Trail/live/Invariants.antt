@@ -1,5 +1,5 @@
-use Rattle.luf_scope.specs.Holders.{IsBound}
-use Rattle.luf_scope.proofs.holders.Trail.live.Given as goal
+use Rattle.luf_goto.specs.inner.Holders.{IsBound}
+use Rattle.luf_goto.proofs.holders.Trail.live.Given as goal
 
 abbrev pub invariant-loop-top : goal.invariant-loop-top
 invariant-loop-top l = IsBound l.extents l.self.next l.spot.class l.spot.place l.top

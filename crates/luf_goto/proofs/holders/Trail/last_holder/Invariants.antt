@@ -1,6 +1,6 @@
 use Rattle.std.proofs.Common.{◌≡◌, ◌-◌, length, vec_len}
-use Rattle.luf_scope.specs.Holders.{IsTrail}
-use Rattle.luf_scope.proofs.holders.Trail.last_holder.Given as goal
+use Rattle.luf_goto.specs.inner.Holders.{IsTrail}
+use Rattle.luf_goto.proofs.holders.Trail.last_holder.Given as goal
 
 abbrev pub invariant-loop-self : goal.invariant-loop-self
 invariant-loop-self l = record {

@@ -5,9 +5,9 @@ use Rattle.std.proofs.lemmas.Bool.{cases_lt, and_from, and_parts, eq-eqb, eqb-tr
 use Rattle.std.specs.List.Sorted.{IsNonDecreasingBy}
 use Rattle.std.specs.Option.{option_or}
 use Rattle.luf_scope.specs.Local.{last_passing}
-use Rattle.luf_scope.specs.declared.holders.Extent.{Extent}
-use Rattle.luf_scope.specs.declared.holders.Spot.{Spot}
-use Rattle.luf_scope.specs.Holders.{holds, last_holding, one_higher, nowhere, extent_at, IsTrail, IsBound}
+use Rattle.luf_goto.specs.declared.holders.Extent.{Extent}
+use Rattle.luf_goto.specs.declared.holders.Spot.{Spot}
+use Rattle.luf_goto.specs.inner.Holders.{holds, last_holding, one_higher, nowhere, extent_at, IsTrail, IsBound}
 
 pub last_passing_none : {A : Type 0} (test : A → Bool) (n : ℕ) (xs : List A) → ((i : ℕ) (d : A) → i < length xs → test (get_or xs i d) ≡ false) → last_passing test n xs ≡ None
 last_passing_none test n [] none = refl
