@@ -3,6 +3,8 @@ pub mod Links
 pub mod Local
 pub mod Jump
 pub mod Marks
+pub mod Nesting
 pub mod Occurrences
+pub mod Order
 pub mod Role
 pub mod inner

@@ -3,16 +3,25 @@
 
 mod adding;
 mod binder;
+mod checks;
 mod fault;
 mod jump;
+mod laws;
 mod links;
+mod locals;
 mod marks;
+mod meanings;
+mod names;
 mod occurrence;
 mod reading;
+mod roles;
+mod scopes;
+mod stacks;
 
 pub use binder::{Binder, BinderKind, Role};
 pub use fault::{ScopeBad, ScopeErr, ScopeWhat, first_of};
 pub use jump::JumpRole;
+pub use laws::{label_blocks_are_nested, occurrences_are_ordered};
 pub use links::Links;
 pub use luf_memory::Memory;
 pub use marks::Marks;

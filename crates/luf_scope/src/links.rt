@@ -1,5 +1,6 @@
 // What each token is to the names of a chunk, and its local variables.
 ghost use Rattle.std.specs.Prelude.{◌≡◌};
+ghost use Rattle.luf_scope.specs.Links.{role_at};
 
 use crate::{Binder, Marks, Role};
 use std::marker::Model;
@@ -13,17 +14,17 @@ pub struct Links {
 }
 
 impl Model for Links {
-    ghost use Rattle.luf_scope.specs.Links.{NameTable, role_among};
+    ghost use Rattle.luf_scope.specs.Links.{NameTable};
 
     ghost Value = { NameTable };
 
-    ghost view = { λ l. record { role_at = role_among l.tokens l.roles; binders = l.binders.items } };
+    ghost view = { λ l. record { tokens = l.tokens; roles = l.roles; binders = l.binders.items } };
 }
 
 impl Links {
     /// What token `token` is; None from the number of tokens on.
     pub fn at(&self, token: u32) -> Option<Role>
-        ensures { result ≡ self.now.role_at token }
+        ensures { result ≡ role_at self.now token }
     {
         if token >= self.tokens {
             return None;

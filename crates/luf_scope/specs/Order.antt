@@ -1,5 +1,10 @@
 -- How the occurrences of a chunk lie: by their places, and of what is declared the scopes.
-use Rattle.std.specs.Prelude.{◌≡◌, ℕ, ◌+◌, ◌<◌, ◌≤◌, ◌⊎◌, Bool, true, false, Option, Some, None, List, All, AllPairs}
+use Rattle.std.specs.Prelude.{◌≡◌, ℕ, ◌+◌, ◌<◌, ◌≤◌, ◌⊎◌, Bool, true, false, Some, None, List, length, All, AllPairs}
+use Rattle.luf_lex.specs.declared.token.Tok.{Tok}
+use Rattle.luf_tree.specs.declared.tree.Chunk.{Chunk}
+use Rattle.luf_tree.specs.Grammar.{IsChunk}
+use Rattle.luf_tree.specs.SyntaxOf.{syntax_of}
+use Rattle.luf_scope.specs.Occurrences.{occurrences_in_block}
 use Rattle.luf_scope.specs.declared.occurrence.Occurrence.{Occurrence}
 use Rattle.luf_scope.specs.declared.occurrence.Occurrence.TheVariants.{Local, LocalFunction, Parameter, ImplicitSelf, LoopVariable, Reads, Assigns, Field, Varargs, Function, Loop, Label, Goto, Break}
 
@@ -63,6 +68,34 @@ to_of (ImplicitSelf colon from to) = to
 to_of (LoopVariable name from to) = to
 to_of _ = 0
 
+abbrev pub is_loop : Occurrence → Bool
+is_loop (Loop from to) = true
+is_loop _ = false
+
+abbrev pub is_label : Occurrence → Bool
+is_label (Label name from to at_end) = true
+is_label _ = false
+
+-- the block that holds a label
+abbrev pub block_from : Occurrence → ℕ
+block_from (Label name from to at_end) = from
+block_from _ = 0
+
+abbrev pub block_to : Occurrence → ℕ
+block_to (Label name from to at_end) = to
+block_to _ = 0
+
+-- a block holds the token of its label
+pub record StandsInBlock (u : Occurrence) : Type 0 where
+  pub begun : block_from u ≤ place u
+  pub ends : place u < block_to u
+
+-- what holds of an occurrence by itself: but a loop stands at one token at least
+pub record IsPlaced (u : Occurrence) : Type 0 where
+  pub long : place u ≤ behind u
+  pub some : is_loop u ≡ false → place u < behind u
+  pub block : is_label u ≡ true → StandsInBlock u
+
 -- Of two scopes, that of the earlier declaration first: the later one ends before the earlier begins, as in an
 -- initialiser; or it begins in the earlier one and ends in it; or it begins behind it.
 pub record AreNested (u v : Occurrence) : Type 0 where
@@ -83,14 +116,18 @@ pub record Opens (e c : ℕ) (u : Occurrence) : Type 0 where
 
 -- an occurrence of a part from a to e, in a block that ends at c
 pub record Within (a e c : ℕ) (u : Occurrence) : Type 0 where
+  pub own : IsPlaced u
   pub low : a ≤ place u
-  pub long : place u ≤ behind u
   pub high : behind u ≤ e
   pub opens : declares u ≡ true → Opens e c u
 
 -- the occurrences of a part from a to e, in a block that ends at c
-pub record Lie (a e c : ℕ) (os : List Occurrence) : Type 0 where
+pub record AreOrdered (a e c : ℕ) (os : List Occurrence) : Type 0 where
   pub on : a ≤ e
   pub up_to : e ≤ c
   pub pairs : AllPairs Follows os
   pub within : All (Within a e c) os
+
+-- so lies all that a chunk says
+abbrev pub OccurrencesAreOrdered : Type 0
+OccurrencesAreOrdered = (toks : List Tok) (c : Chunk) → IsChunk toks c → AreOrdered 0 (length toks) (length toks) (occurrences_in_block (syntax_of c))
