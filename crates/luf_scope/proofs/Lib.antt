@@ -19,3 +19,5 @@ pub mod Functions
 pub mod Laying
 pub mod Closes
 pub mod Roled
+pub mod Counted
+pub mod Told
