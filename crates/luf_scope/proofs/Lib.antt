@@ -21,3 +21,5 @@ pub mod Closes
 pub mod Roled
 pub mod Counted
 pub mod Told
+pub mod Meant
+pub mod Named
