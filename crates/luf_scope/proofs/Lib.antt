@@ -23,3 +23,4 @@ pub mod Counted
 pub mod Told
 pub mod Meant
 pub mod Named
+pub mod RoleFound
