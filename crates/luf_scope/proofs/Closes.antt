@@ -19,7 +19,7 @@ any_same : {X : Type 0} (p q : X → Bool) (xs : List X) → All (λ x. p x ≡ 
 any_same p q [] same = refl
 any_same p q (x ∷ xs) same = ap (λ b. b || list_any p xs) (All-head (λ y. p y ≡ q y) x xs same) ∙ ap (λ b. q x || b) (any_same p q xs (All-tail (λ y. p y ≡ q y) x xs same))
 
-any_none : {X : Type 0} (p : X → Bool) (xs : List X) → All (λ x. p x ≡ false) xs → list_any p xs ≡ false
+pub any_none : {X : Type 0} (p : X → Bool) (xs : List X) → All (λ x. p x ≡ false) xs → list_any p xs ≡ false
 any_none p [] none = refl
 any_none p (x ∷ xs) none = ap (λ b. b || list_any p xs) (All-head (λ y. p y ≡ false) x xs none) ∙ any_none p xs (All-tail (λ y. p y ≡ false) x xs none)
 

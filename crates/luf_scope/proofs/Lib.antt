@@ -21,3 +21,6 @@ pub mod Closes
 pub mod Roled
 pub mod Counted
 pub mod Told
+pub mod Meant
+pub mod Named
+pub mod RoleFound

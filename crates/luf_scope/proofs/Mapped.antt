@@ -22,3 +22,7 @@ pub given_at : {X Y : Type 0} (f : X → Y) (xs : List X) (ys : List Y) (i : ℕ
 given_at f xs ys i d r is inside reads =
     let long : length ys ≡ length xs = ap length is ∙ length-map xs f in
     reads (f d) (omega arith) ∙ ap (λ zs. get_or zs i (f d)) is ∙ get_or-map f xs i d (f d) inside
+
+pub map_each : {X Y : Type 0} (f g : X → Y) (xs : List X) → ((x : X) → f x ≡ g x) → map f xs ≡ map g xs
+map_each f g [] same = refl
+map_each f g (x ∷ xs) same = ap (λ y. y ∷ map f xs) (same x) ∙ ap (λ ys. g x ∷ ys) (map_each f g xs same)

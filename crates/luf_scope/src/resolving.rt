@@ -70,5 +70,6 @@ fn meanings_of(
 {
     let names = number_names(alloc, src, cut, os)?;
     let scopes = in_order(scopes_of(alloc, src, cut, os, &names)?)?;
-    meanings(alloc, src, cut, os, &names, scopes.as_slice())
+    let found = meanings(alloc, src, cut, os, &names, scopes.as_slice())?;
+    Ok(found)
 }
