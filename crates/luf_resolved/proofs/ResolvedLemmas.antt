@@ -4,7 +4,8 @@ use Rattle.luf_lex.specs.declared.token.Piece.{Piece}
 use Rattle.luf_tree.specs.SyntaxOf.{syntax_of}
 use Rattle.luf_lex.proofs.OneCut.{one_cut}
 use Rattle.luf_resolved.specs.Resolved.{resolved}
-use Rattle.luf_resolved.specs.ResolvedLaws.{spelled_in, OneMeaning}
+use Rattle.luf_scope.specs.Links.{spelling_in}
+use Rattle.luf_resolved.specs.ResolvedLaws.{OneMeaning}
 
 pub one_meaning : OneMeaning
-one_meaning source chunk program other a b = sym a.is ∙ ap (λ (pieces : List Piece). resolved (spelled_in source pieces) (syntax_of chunk)) (one_cut source a.pieces b.pieces a.cut b.cut) ∙ b.is
+one_meaning source chunk program other a b = sym a.is ∙ ap (λ (pieces : List Piece). resolved (spelling_in source pieces) (syntax_of chunk)) (one_cut source a.pieces b.pieces a.cut b.cut) ∙ b.is

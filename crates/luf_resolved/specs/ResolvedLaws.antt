@@ -2,7 +2,7 @@
 use Rattle.std.specs.Prelude.{◌≡◌, ℕ, List, [], map, length, slice_get, unwrap_or}
 use Rattle.std.specs.Option.{option_map}
 use Rattle.luf_lex.specs.Cut.{IsCut}
-use Rattle.luf_lex.specs.Tokens.{toks_of, spellings_of}
+use Rattle.luf_lex.specs.Tokens.{toks_of}
 use Rattle.luf_lex.specs.declared.token.Tok.{Tok}
 use Rattle.luf_lex.specs.declared.token.Piece.{Piece}
 use Rattle.luf_tree.specs.declared.tree.Chunk.{Chunk}
@@ -12,19 +12,16 @@ use Rattle.luf_tree.specs.TokenSyntax as tokens
 use Rattle.luf_bare.specs.Rank.{ranked}
 use Rattle.luf_bare.specs.ReadBack.{SpelledToken, TextWord, IsReadBack, spelled_at, word_at}
 use Rattle.luf_bare.specs.Significant.{significant}
+use Rattle.luf_scope.specs.Links.{spelling_in}
 use Rattle.luf_scope.specs.Local.{Spelling}
 use Rattle.luf_resolved.specs.Resolved.{ResolvedProgram, resolved}
-
--- how the tokens of a cut are spelled; beyond the last one nothing is
-abbrev pub spelled_in : List ℕ → List Piece → Spelling
-spelled_in source pieces n = unwrap_or (slice_get (spellings_of source pieces) n) []
 
 -- a source resolves to this, by a tree of its tokens
 pub record ResolvesTo (source : List ℕ) (chunk : Chunk) (program : ResolvedProgram) : Type 0 where
   pub pieces : List Piece
   pub cut : IsCut source pieces
   pub tree : IsChunk (toks_of pieces) chunk
-  pub is : resolved (spelled_in source pieces) (syntax_of chunk) ≡ program
+  pub is : resolved (spelling_in source pieces) (syntax_of chunk) ≡ program
 
 -- with one tree a source resolves to one program
 abbrev pub OneMeaning : Type 0

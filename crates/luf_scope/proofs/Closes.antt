@@ -64,7 +64,7 @@ module _ (spelled : Spelling) (os : List Occurrence) (i : ℕ) (laid : AreLaid o
       let split : os ≡ take i os ++ get_or os i d ∷ drop (i + 1) os = sym (take-append-drop i os) ∙ ap (λ r. take i os ++ r) (dropped os i d inside) in
       let self : test (get_or os i d) ≡ false = ap test here ∙ later_close (bytes_eq (spelled a) (codes "close")) (nat_eq from from) a a (let low : a ≤ a = omega arith in grind (arith, nat_tests)) in
       let none : list_any test (get_or os i d ∷ drop (i + 1) os) ≡ false = any_none test (get_or os i d ∷ drop (i + 1) os) (All-cons (λ u. test u ≡ false) (get_or os i d) (drop (i + 1) os) self
-          (λ j e within. not_behind spelled os from a (get_or (drop (i + 1) os) j e) (let b : behind (get_or os i d) ≤ place (get_or (drop (i + 1) os) j e) = all_behind os i laid inside d j e within in omega arith) (all_stand os i laid inside j e within))) in
+      (λ j e within. not_behind spelled os from a (get_or (drop (i + 1) os) j e) (let b : behind (get_or os i d) ≤ place (get_or (drop (i + 1) os) j e) = all_behind os i laid inside d j e within in omega arith) (all_stand os i laid inside j e within))) in
       ap (list_any test) split
       ∙ list_any-append test (take i os) (get_or os i d ∷ drop (i + 1) os)
       ∙ ap (λ b. list_any test (take i os) || b) none

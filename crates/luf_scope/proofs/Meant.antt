@@ -56,16 +56,16 @@ last_is : (test : Scope → Bool) (xs : List Scope) (y : Scope) → AllPairs (Ri
 last_is test [] y rise is = absurd cc
 last_is test (x ∷ xs) y rise is = elim (last_cases (last_such test xs) x y (test x) is) [
   | inl rest ↦ let h = last_is test xs y (pairs_tail (Rise test) x xs rise) rest in record {
-      among = one_later x xs y h.among;
-      passes = h.passes;
-      greatest = All-cons (λ s. test s ≡ true → s.local ≤ y.local) x xs (λ here. All-contains (Rise test x) xs y (pairs_head (Rise test) x xs rise) h.among here h.passes) h.greatest;
-    }
+    among = one_later x xs y h.among;
+    passes = h.passes;
+    greatest = All-cons (λ s. test s ≡ true → s.local ≤ y.local) x xs (λ here. All-contains (Rise test x) xs y (pairs_head (Rise test) x xs rise) h.among here h.passes) h.greatest;
+  }
   | inr here ↦ record {
-      among = is_first x xs y here.2;
-      passes = ap test (sym here.2) ∙ here.1;
-      greatest = All-cons (λ s. test s ≡ true → s.local ≤ y.local) x xs (λ t. omega (arith, ap (λ (s : Scope). s.local) here.2))
-          (λ j d inside t. absurd (no_yes (test (get_or xs j d)) (none_passes test xs here.0 j d inside) t));
-    }
+    among = is_first x xs y here.2;
+    passes = ap test (sym here.2) ∙ here.1;
+    greatest = All-cons (λ s. test s ≡ true → s.local ≤ y.local) x xs (λ t. omega (arith, ap (λ (s : Scope). s.local) here.2))
+        (λ j d inside t. absurd (no_yes (test (get_or xs j d)) (none_passes test xs here.0 j d inside) t));
+  }
 ]
   where
     no_yes : (b : Bool) → b ≡ false → b ≡ true → ⊥

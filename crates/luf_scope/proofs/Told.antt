@@ -170,7 +170,7 @@ module _ (spelled : Spelling) (os : List Occurrence) where
       let fc = first_of_word ConstAssign (constant_assigned spelled os) constant_stands os laid in
       let fv = first_of_word VarargOutside (varargs_outside spelled os) varargs_stands os laid in
       sym (first_of_both 2 ((us ++ ss) ++ cs) vs (All-append (RanksTo 2) (us ++ ss) cs (All-append (RanksTo 2) us ss u2 s2) c2) v
-        ∙ ap (λ o. first_of o (first_fault vs)) (first_of_both 1 (us ++ ss) cs (All-append (RanksTo 1) us ss u1 s1) c
-          ∙ ap (λ o. first_of o (first_fault cs)) (first_of_both 0 us ss u s ∙ ap (λ o. first_of o (first_fault ss)) fu ∙ ap (first_of (first_at UnknownAttribute (unknown_attribute spelled os) os)) fs)
-          ∙ ap (first_of (first_of (first_at UnknownAttribute (unknown_attribute spelled os) os) (first_at TwoClose (second_close spelled os) os))) fc)
-        ∙ ap (first_of (first_of (first_of (first_at UnknownAttribute (unknown_attribute spelled os) os) (first_at TwoClose (second_close spelled os) os)) (first_at ConstAssign (constant_assigned spelled os) os))) fv)
+      ∙ ap (λ o. first_of o (first_fault vs)) (first_of_both 1 (us ++ ss) cs (All-append (RanksTo 1) us ss u1 s1) c
+      ∙ ap (λ o. first_of o (first_fault cs)) (first_of_both 0 us ss u s ∙ ap (λ o. first_of o (first_fault ss)) fu ∙ ap (first_of (first_at UnknownAttribute (unknown_attribute spelled os) os)) fs)
+      ∙ ap (first_of (first_of (first_at UnknownAttribute (unknown_attribute spelled os) os) (first_at TwoClose (second_close spelled os) os))) fc)
+      ∙ ap (first_of (first_of (first_of (first_at UnknownAttribute (unknown_attribute spelled os) os) (first_at TwoClose (second_close spelled os) os)) (first_at ConstAssign (constant_assigned spelled os) os))) fv)
