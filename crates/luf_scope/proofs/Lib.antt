@@ -1,4 +1,5 @@
 mod FaultExamples
+mod RoleExamples
 pub mod Added
 pub mod TreeReads
 pub mod Solid

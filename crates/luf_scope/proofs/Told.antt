@@ -52,13 +52,13 @@ both [] ys = refl
 both (x ∷ xs) ys = ap (λ o. Some (earlier x o)) (both xs ys) ∙ in_turn x (first_fault xs) (first_fault ys)
 
 -- this word at these tokens
-abbrev faults_at : ScopeWhat → List ℕ → List ScopeBad
+abbrev pub faults_at : ScopeWhat → List ℕ → List ScopeBad
 faults_at what tokens = map (λ token. record { token = token; what = what }) tokens
 
-abbrev RanksTo : ℕ → ScopeBad → Type 0
+abbrev pub RanksTo : ℕ → ScopeBad → Type 0
 RanksTo r a = rank a.what ≤ r
 
-abbrev RanksFrom : ℕ → ScopeBad → Type 0
+abbrev pub RanksFrom : ℕ → ScopeBad → Type 0
 RanksFrom r a = r < rank a.what
 
 by_rank : (r : ℕ) (o p : Option ScopeBad) → IfSome o (RanksTo r) → IfSome p (RanksFrom r) → joined o p ≡ first_of o p
