@@ -1,23 +1,15 @@
 -- The last scope that passes is the same in the order of the variables and in that in which the scopes begin.
-use Rattle.std.proofs.Common.{◌≡◌, ℕ, zero, suc, ◌+◌, ◌-◌, ◌<◌, ◌≤◌, ◌⊎◌, inl, inr, Bool, true, false, ◌&&◌, cond, nat_eq, nat_le, nat_lt, bytes_eq, Option, Some, None, IfSome, unwrap_or, List, [], ◌∷◌, length, get_or, slice_index_or, refl, sym, ap, ◌∙◌, subst, arith, All, AllPairs, Contains}
-use Rattle.std.specs.List.{filter_map, cons_option, position_from}
+use Rattle.std.proofs.Common.{◌≡◌, ℕ, zero, suc, ◌<◌, ◌≤◌, ◌⊎◌, inl, inr, Bool, true, false, cond, Option, Some, None, List, [], ◌∷◌, length, get_or, refl, sym, ap, ◌∙◌, subst, arith, All, AllPairs, Contains}
 use Rattle.std.specs.List.Sorted.{IsPermutation}
-use Rattle.std.specs.Option.{option_or, option_map, option_and_then}
+use Rattle.std.specs.Option.{option_or, option_map}
 use Rattle.std.proofs.lemmas.Bool.{cases_lt}
 use Rattle.std.proofs.lemmas.Bool.Decides.{nat_tests}
-use Rattle.std.proofs.lemmas.List.Elements.{All-head, All-tail, All-cons, All-nil, All-contains, All-contains_itself}
-use Rattle.std.proofs.lemmas.List.Kept.{AllPairs-cons}
-use Rattle.std.proofs.lemmas.List.Sorted.{IsPermutation-sym, Contains-permutation, All-permutation, length_permutation}
-use Rattle.std.proofs.lemmas.Slice.Eq.{bytes_eq-Decides}
-use Rattle.luf_scope.specs.Local.{Spelling, LocalVariable, declared_by, locals_of, is_active, last_passing, meaning}
-use Rattle.luf_scope.specs.Order.{declares, from_of, to_of, AreOrdered, Follows}
-use Rattle.luf_scope.specs.declared.occurrence.Occurrence.{Occurrence}
-use Rattle.luf_scope.specs.declared.occurrence.Occurrence.TheVariants.{Local, LocalFunction, Parameter, ImplicitSelf, LoopVariable}
+use Rattle.std.proofs.lemmas.List.Elements.{All-cons, All-nil, All-contains, All-contains_itself}
+use Rattle.std.proofs.lemmas.List.Sorted.{IsPermutation-sym, Contains-permutation}
+use Rattle.luf_scope.specs.Local.{LocalVariable}
 use Rattle.luf_scope.specs.declared.scopes.Scope.{Scope}
 use Rattle.luf_scope.specs.inner.Last.{last_such}
-use Rattle.luf_scope.specs.inner.Scopes.{name_number, scopes_from, Begins, AreInOrder, is_meant, meant_at}
-use Rattle.luf_scope.specs.inner.Sweep.{AreRanged}
-use Rattle.luf_scope.proofs.Laying.{all_filter_map}
+use Rattle.luf_scope.specs.inner.Scopes.{Begins, AreInOrder, is_meant}
 use Rattle.luf_scope.proofs.Mapped.{pair_at}
 use Rattle.luf_scope.proofs.Marked.{pairs_head, pairs_tail}
 
@@ -56,16 +48,16 @@ last_is : (test : Scope → Bool) (xs : List Scope) (y : Scope) → AllPairs (Ri
 last_is test [] y rise is = absurd cc
 last_is test (x ∷ xs) y rise is = elim (last_cases (last_such test xs) x y (test x) is) [
   | inl rest ↦ let h = last_is test xs y (pairs_tail (Rise test) x xs rise) rest in record {
-      among = one_later x xs y h.among;
-      passes = h.passes;
-      greatest = All-cons (λ s. test s ≡ true → s.local ≤ y.local) x xs (λ here. All-contains (Rise test x) xs y (pairs_head (Rise test) x xs rise) h.among here h.passes) h.greatest;
-    }
+    among = one_later x xs y h.among;
+    passes = h.passes;
+    greatest = All-cons (λ s. test s ≡ true → s.local ≤ y.local) x xs (λ here. All-contains (Rise test x) xs y (pairs_head (Rise test) x xs rise) h.among here h.passes) h.greatest;
+  }
   | inr here ↦ record {
-      among = is_first x xs y here.2;
-      passes = ap test (sym here.2) ∙ here.1;
-      greatest = All-cons (λ s. test s ≡ true → s.local ≤ y.local) x xs (λ t. omega (arith, ap (λ (s : Scope). s.local) here.2))
-          (λ j d inside t. absurd (no_yes (test (get_or xs j d)) (none_passes test xs here.0 j d inside) t));
-    }
+    among = is_first x xs y here.2;
+    passes = ap test (sym here.2) ∙ here.1;
+    greatest = All-cons (λ s. test s ≡ true → s.local ≤ y.local) x xs (λ t. omega (arith, ap (λ (s : Scope). s.local) here.2))
+        (λ j d inside t. absurd (no_yes (test (get_or xs j d)) (none_passes test xs here.0 j d inside) t));
+  }
 ]
   where
     no_yes : (b : Bool) → b ≡ false → b ≡ true → ⊥

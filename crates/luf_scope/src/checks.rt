@@ -38,10 +38,7 @@ pub fn name_fault(
     let second = first_second_close(alloc, src, cut, os)?;
     let constant = first_constant(os, meanings, binders);
     let varargs = first_varargs(alloc, os)?;
-    Ok(first_of(
-        first_of(first_of(unknown, second), constant),
-        varargs,
-    ))
+    Ok(first_of(first_of(first_of(unknown, second), constant), varargs))
 }
 
 // The first attribute that is neither `const` nor `close`.

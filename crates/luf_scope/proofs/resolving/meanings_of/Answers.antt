@@ -1,7 +1,7 @@
-use Rattle.std.proofs.Common.{◌≡◌, map, length, get_or, sym, ap, ◌∙◌, subst, arith}
+use Rattle.std.proofs.Common.{map, sym, ap, ◌∙◌, subst, arith}
 use Rattle.luf_scope.specs.Links.{spelling_in}
 use Rattle.luf_scope.specs.Local.{locals_of}
-use Rattle.luf_scope.specs.inner.Scopes.{number_in, scopes_from, meant_by, meaning_of}
+use Rattle.luf_scope.specs.inner.Scopes.{number_in, meant_by, meaning_of}
 use Rattle.luf_scope.specs.inner.Sweep.{AreRanged}
 use Rattle.luf_scope.proofs.Counted.{few_locals, places_from_order}
 use Rattle.luf_scope.proofs.Mapped.{map_each}
@@ -33,4 +33,4 @@ returns c =
     c.in_ok-found.ensures
     ∙ ap (λ scopes. map (meant_by spelled number scopes) os) c.as_slice.ensures.value
     ∙ map_each (meant_by spelled number c.in_ok-scopes.scopes.items) (meaning_of spelled (locals_of spelled os)) os
-      (meant_each spelled os number c.in_ok-scopes_of.field-0.items c.in_ok-scopes.scopes.items c.in_ok-names.ensures c.in_ok-scopes_of.ensures c.in_ok-scopes.ensures c.requires.order.pairs)
+    (meant_each spelled os number c.in_ok-scopes_of.field-0.items c.in_ok-scopes.scopes.items c.in_ok-names.ensures c.in_ok-scopes_of.ensures c.in_ok-scopes.ensures c.requires.order.pairs)
