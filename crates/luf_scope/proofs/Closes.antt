@@ -1,5 +1,5 @@
 -- A `close` behind another of its statement, read off those before it.
-use Rattle.std.proofs.Common.{◌≡◌, ℕ, ◌+◌, ◌<◌, ◌≤◌, Bool, true, false, ◌&&◌, ◌||◌, cond, nat_eq, nat_lt, bytes_eq, codes, Option, Some, None, List, [], ◌∷◌, ◌++◌, length, get_or, take, drop, refl, sym, ap, ◌∙◌, subst, arith, All}
+use Rattle.std.proofs.Common.{◌≡◌, ℕ, ◌+◌, ◌<◌, ◌≤◌, Bool, true, false, ◌&&◌, ◌||◌, cond, nat_eq, nat_lt, bytes_eq, codes, Some, None, List, [], ◌∷◌, ◌++◌, length, get_or, take, drop, refl, sym, ap, ◌∙◌, arith, All}
 use Rattle.std.specs.List.{list_any}
 use Rattle.std.specs.Option.{option_map_or, option_and_then}
 use Rattle.std.proofs.lemmas.Bool.Decides.{nat_tests}
@@ -11,7 +11,7 @@ use Rattle.luf_scope.specs.Local.{Spelling}
 use Rattle.luf_scope.specs.Order.{place, behind, is_loop}
 use Rattle.luf_scope.specs.declared.occurrence.Occurrence.{Occurrence}
 use Rattle.luf_scope.specs.declared.occurrence.Occurrence.TheVariants.{Local}
-use Rattle.luf_scope.specs.inner.Laid.{AreLaid, close_of, closes_at, second_among}
+use Rattle.luf_scope.specs.inner.Laid.{AreLaid, closes_at, second_among}
 use Rattle.luf_scope.proofs.Laying.{all_ended, all_behind, all_stand}
 use Rattle.luf_scope.proofs.Mapped.{dropped}
 

@@ -1,15 +1,15 @@
 -- The function that holds a `...`, read off a stack of those that have begun.
-use Rattle.std.proofs.Common.{◌≡◌, ℕ, zero, suc, ◌+◌, ◌-◌, ◌<◌, ◌≤◌, ◌⊎◌, inl, inr, Bool, true, false, ◌&&◌, not, cond, nat_eq, nat_le, nat_lt, Option, Some, None, IfSome, List, [], ◌∷◌, ◌++◌, length, get_or, slice_get, take, drop, refl, sym, ap, ◌∙◌, subst, arith, All, AllPairs}
-use Rattle.std.specs.List.{filter_map, cons_option}
+use Rattle.std.proofs.Common.{◌≡◌, ℕ, suc, ◌+◌, ◌-◌, ◌<◌, ◌≤◌, Bool, true, false, ◌&&◌, not, cond, nat_le, nat_lt, Option, Some, None, IfSome, List, [], ◌∷◌, ◌++◌, length, get_or, slice_get, take, drop, refl, sym, ap, ◌∙◌, subst, arith}
+use Rattle.std.specs.List.{cons_option}
 use Rattle.std.specs.Option.{option_or, option_map, option_map_or, option_and_then, option_to_list}
 use Rattle.std.proofs.lemmas.Bool.Decides.{nat_tests}
-use Rattle.std.proofs.lemmas.List.{take_more, take-append-drop, get_or-drop, get_or-take, length-drop, length-take-le}
-use Rattle.std.proofs.lemmas.List.Elements.{All-head, All-tail, All-cons, All-nil, filter_map-append}
+use Rattle.std.proofs.lemmas.List.{take_more, take-append-drop}
+use Rattle.std.proofs.lemmas.List.Elements.{filter_map-append}
 use Rattle.luf_scope.specs.Fault as fault
-use Rattle.luf_scope.specs.Local.{Spelling, FunctionAt, function_by, functions_of, function_of, is_held, last_passing}
-use Rattle.luf_scope.specs.Order.{place, behind, is_loop}
+use Rattle.luf_scope.specs.Local.{Spelling, FunctionAt, function_by, functions_of, is_held, last_passing}
+use Rattle.luf_scope.specs.Order.{place, behind}
 use Rattle.luf_scope.specs.declared.occurrence.Occurrence.{Occurrence}
-use Rattle.luf_scope.specs.declared.occurrence.Occurrence.TheVariants.{Local, Function, Loop, Varargs}
+use Rattle.luf_scope.specs.declared.occurrence.Occurrence.TheVariants.{Function, Varargs}
 use Rattle.luf_scope.specs.declared.stacks.Held.{Held}
 use Rattle.luf_scope.specs.inner.Last.{last_such, outlasts}
 use Rattle.luf_scope.specs.inner.Laid.{AreLaid, Tells, varargs_among}

@@ -1,23 +1,15 @@
 -- The last scope that passes is the same in the order of the variables and in that in which the scopes begin.
-use Rattle.std.proofs.Common.{◌≡◌, ℕ, zero, suc, ◌+◌, ◌-◌, ◌<◌, ◌≤◌, ◌⊎◌, inl, inr, Bool, true, false, ◌&&◌, cond, nat_eq, nat_le, nat_lt, bytes_eq, Option, Some, None, IfSome, unwrap_or, List, [], ◌∷◌, length, get_or, slice_index_or, refl, sym, ap, ◌∙◌, subst, arith, All, AllPairs, Contains}
-use Rattle.std.specs.List.{filter_map, cons_option, position_from}
+use Rattle.std.proofs.Common.{◌≡◌, ℕ, zero, suc, ◌<◌, ◌≤◌, ◌⊎◌, inl, inr, Bool, true, false, cond, Option, Some, None, List, [], ◌∷◌, length, get_or, refl, sym, ap, ◌∙◌, subst, arith, All, AllPairs, Contains}
 use Rattle.std.specs.List.Sorted.{IsPermutation}
-use Rattle.std.specs.Option.{option_or, option_map, option_and_then}
+use Rattle.std.specs.Option.{option_or, option_map}
 use Rattle.std.proofs.lemmas.Bool.{cases_lt}
 use Rattle.std.proofs.lemmas.Bool.Decides.{nat_tests}
-use Rattle.std.proofs.lemmas.List.Elements.{All-head, All-tail, All-cons, All-nil, All-contains, All-contains_itself}
-use Rattle.std.proofs.lemmas.List.Kept.{AllPairs-cons}
-use Rattle.std.proofs.lemmas.List.Sorted.{IsPermutation-sym, Contains-permutation, All-permutation, length_permutation}
-use Rattle.std.proofs.lemmas.Slice.Eq.{bytes_eq-Decides}
-use Rattle.luf_scope.specs.Local.{Spelling, LocalVariable, declared_by, locals_of, is_active, last_passing, meaning}
-use Rattle.luf_scope.specs.Order.{declares, from_of, to_of, AreOrdered, Follows}
-use Rattle.luf_scope.specs.declared.occurrence.Occurrence.{Occurrence}
-use Rattle.luf_scope.specs.declared.occurrence.Occurrence.TheVariants.{Local, LocalFunction, Parameter, ImplicitSelf, LoopVariable}
+use Rattle.std.proofs.lemmas.List.Elements.{All-cons, All-nil, All-contains, All-contains_itself}
+use Rattle.std.proofs.lemmas.List.Sorted.{IsPermutation-sym, Contains-permutation}
+use Rattle.luf_scope.specs.Local.{LocalVariable}
 use Rattle.luf_scope.specs.declared.scopes.Scope.{Scope}
 use Rattle.luf_scope.specs.inner.Last.{last_such}
-use Rattle.luf_scope.specs.inner.Scopes.{name_number, scopes_from, Begins, AreInOrder, is_meant, meant_at}
-use Rattle.luf_scope.specs.inner.Sweep.{AreRanged}
-use Rattle.luf_scope.proofs.Laying.{all_filter_map}
+use Rattle.luf_scope.specs.inner.Scopes.{Begins, AreInOrder, is_meant}
 use Rattle.luf_scope.proofs.Mapped.{pair_at}
 use Rattle.luf_scope.proofs.Marked.{pairs_head, pairs_tail}
 

@@ -1,5 +1,5 @@
 -- Small chunks, each with the roles of its tokens, by computation.
-use Rattle.std.specs.Prelude.{◌≡◌, ℕ, ◌+◌, false, Option, Some, None, List, [], ◌∷◌, slice_get, unwrap_or, map, codes}
+use Rattle.std.specs.Prelude.{◌≡◌, ℕ, ◌+◌, false, Some, None, List, [], ◌∷◌, slice_get, unwrap_or, map, codes}
 use Rattle.std.proofs.Common.{refl}
 use Rattle.luf_tree.specs.Syntax as syntax
 use Rattle.luf_tree.specs.TokenSyntax.{from_to}

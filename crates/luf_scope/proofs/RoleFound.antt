@@ -1,25 +1,22 @@
 -- The role of a token, found among the roles of occurrences, is what the definition says.
-use Rattle.std.proofs.Common.{◌≡◌, ℕ, ◌+◌, ◌<◌, ◌≤◌, ◌≢◌, ◌⊎◌, inl, inr, Bool, true, false, ◌||◌, cond, nat_eq, nat_lt, Option, Some, None, IfSome, unwrap_or, List, [], ◌∷◌, map, length, get_or, refl, sym, ap, ◌∙◌, subst, arith, All}
-use Rattle.std.specs.List.{filter_map, cons_option, position_from, list_any}
-use Rattle.std.specs.Option.{option_map}
-use Rattle.std.proofs.lemmas.Bool.{cases_lt}
+use Rattle.std.proofs.Common.{◌≡◌, ℕ, ◌+◌, ◌<◌, ◌≤◌, ◌≢◌, Bool, true, false, ◌||◌, cond, nat_eq, nat_lt, Option, Some, None, IfSome, unwrap_or, List, [], ◌∷◌, map, get_or, refl, sym, ap, ◌∙◌, arith, All}
+use Rattle.std.specs.List.{position_from, list_any}
 use Rattle.std.proofs.lemmas.Bool.Decides.{nat_tests}
 use Rattle.std.proofs.lemmas.List.Elements.{All-head, All-tail}
-use Rattle.luf_scope.specs.Links.{NameTable, role_at, AreLinks}
+use Rattle.luf_scope.specs.Links.{NameTable, AreLinks}
 use Rattle.luf_scope.specs.Local.{Spelling, LocalVariable, declared_by, locals_of, binder_of, meaning}
 use Rattle.luf_scope.specs.Marks.{mark_at}
-use Rattle.luf_scope.specs.Order.{place, behind, is_loop, declares}
-use Rattle.luf_scope.specs.Role.{is_variable, is_field, reference, declaration, role_of}
-use Rattle.luf_scope.specs.declared.binder.Binder.{Binder}
+use Rattle.luf_scope.specs.Order.{place, behind, is_loop}
+use Rattle.luf_scope.specs.Role.{is_variable, is_field, reference, declaration}
 use Rattle.luf_scope.specs.declared.binder.Role.{Role}
 use Rattle.luf_scope.specs.declared.binder.Role.TheVariants as role
 use Rattle.luf_scope.specs.declared.occurrence.Occurrence.{Occurrence}
 use Rattle.luf_scope.specs.declared.occurrence.Occurrence.TheVariants.{Local, LocalFunction, Parameter, ImplicitSelf, LoopVariable, Reads, Assigns, Field}
-use Rattle.luf_scope.specs.inner.Laid.{AreLaid, role_here, roles_from}
+use Rattle.luf_scope.specs.inner.Laid.{AreLaid, roles_from}
 use Rattle.luf_scope.specs.inner.Scopes.{meaning_of}
 use Rattle.luf_scope.proofs.Closes.{any_none}
 use Rattle.luf_scope.proofs.Counted.{laid_tail}
-use Rattle.luf_scope.proofs.Laying.{all_filter_map, place_le_behind}
+use Rattle.luf_scope.proofs.Laying.{all_filter_map}
 use Rattle.luf_scope.proofs.Marked.{pairs_head}
 
 position_of_none : (test : LocalVariable → Bool) (n : ℕ) (vs : List LocalVariable) → All (λ v. test v ≡ false) vs → position_from test n vs ≡ None
@@ -28,9 +25,6 @@ position_of_none test n (v ∷ vs) none = ap (λ b. cond b (Some n) (position_fr
 
 apart : (a b : ℕ) → a ≢ b → nat_eq a b ≡ false
 apart a b no_eq = grind (arith, nat_tests)
-
-alike : (a b : ℕ) → a ≡ b → nat_eq a b ≡ true
-alike a b eq = grind (arith, nat_tests)
 
 -- what stands behind a token says nothing of it
 declared_later : (spelled : Spelling) (token : ℕ) (u : Occurrence) → token < place u → IfSome (declared_by spelled u) (λ v. nat_eq v.token token ≡ false)

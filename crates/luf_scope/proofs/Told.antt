@@ -1,11 +1,11 @@
 -- The first fault of all is the first of those that are first of their words.
-use Rattle.std.proofs.Common.{◌≡◌, ℕ, ◌+◌, ◌<◌, ◌≤◌, ◌⊎◌, inl, inr, Bool, true, false, ◌&&◌, ◌||◌, cond, nat_eq, nat_lt, bytes_eq, codes, Option, Some, None, IfSome, List, [], ◌∷◌, ◌++◌, map, length, get_or, refl, sym, ap, ◌∙◌, subst, arith, All, AllPairs}
-use Rattle.std.specs.List.{filter_map, cons_option, list_any}
+use Rattle.std.proofs.Common.{◌≡◌, ℕ, ◌<◌, ◌≤◌, inl, inr, Bool, true, false, ◌&&◌, ◌||◌, cond, nat_eq, nat_lt, Option, Some, None, IfSome, List, [], ◌∷◌, ◌++◌, map, get_or, refl, sym, ap, ◌∙◌, subst, arith, All}
+use Rattle.std.specs.List.{filter_map, cons_option}
 use Rattle.std.specs.Option.{option_or, option_map}
 use Rattle.std.proofs.lemmas.Bool.{cases_lt}
 use Rattle.std.proofs.lemmas.Bool.Decides.{nat_tests}
-use Rattle.std.proofs.lemmas.List.Elements.{All-head, All-tail, All-cons, All-nil, All-append, All-map}
-use Rattle.luf_scope.specs.Fault.{earlier, first_fault, first_of, is_told_before, rank, name_faults, unknown_attribute, second_close, constant_assigned, varargs_outside}
+use Rattle.std.proofs.lemmas.List.Elements.{All-head, All-tail, All-append, All-map}
+use Rattle.luf_scope.specs.Fault.{earlier, first_fault, first_of, rank, name_faults, unknown_attribute, second_close, constant_assigned, varargs_outside}
 use Rattle.luf_scope.specs.Local.{Spelling}
 use Rattle.luf_scope.specs.Order.{place, behind, is_loop}
 use Rattle.luf_scope.specs.declared.fault.ScopeBad.{ScopeBad}

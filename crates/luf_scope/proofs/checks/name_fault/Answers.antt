@@ -1,4 +1,4 @@
-use Rattle.std.proofs.Common.{sym, ap, ◌∙◌}
+use Rattle.std.proofs.Common.{ap, ◌∙◌}
 use Rattle.luf_scope.specs.Fault as fault
 use Rattle.luf_scope.specs.Links.{spelling_in}
 use Rattle.luf_scope.proofs.Told.{first_name_fault}

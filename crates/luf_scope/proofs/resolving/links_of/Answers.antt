@@ -1,4 +1,4 @@
-use Rattle.std.proofs.Common.{◌≡◌, map, ap, ◌∙◌, arith}
+use Rattle.std.proofs.Common.{ap, ◌∙◌, arith}
 use Rattle.luf_scope.specs.Links.{spelling_in, NameTable}
 use Rattle.luf_scope.specs.Local.{locals_of}
 use Rattle.luf_scope.specs.inner.Scopes.{meaning_of}

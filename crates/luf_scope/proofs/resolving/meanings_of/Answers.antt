@@ -1,7 +1,7 @@
-use Rattle.std.proofs.Common.{◌≡◌, map, length, get_or, sym, ap, ◌∙◌, subst, arith}
+use Rattle.std.proofs.Common.{map, sym, ap, ◌∙◌, subst, arith}
 use Rattle.luf_scope.specs.Links.{spelling_in}
 use Rattle.luf_scope.specs.Local.{locals_of}
-use Rattle.luf_scope.specs.inner.Scopes.{number_in, scopes_from, meant_by, meaning_of}
+use Rattle.luf_scope.specs.inner.Scopes.{number_in, meant_by, meaning_of}
 use Rattle.luf_scope.specs.inner.Sweep.{AreRanged}
 use Rattle.luf_scope.proofs.Counted.{few_locals, places_from_order}
 use Rattle.luf_scope.proofs.Mapped.{map_each}
