@@ -7,3 +7,5 @@ pub mod Marks
 pub mod Numbers
 pub mod Places
 pub mod Trails
+pub mod Told
+pub mod Chosen
