@@ -9,3 +9,4 @@ pub mod Places
 pub mod Trails
 pub mod Told
 pub mod Chosen
+pub mod Classes
