@@ -10,3 +10,5 @@ pub mod Trails
 pub mod Told
 pub mod Chosen
 pub mod Classes
+pub mod Agree
+pub mod Lifted
