@@ -54,7 +54,7 @@ class_is names a b here there = elim (cases_Bool (same_name a b)) [
       ∙ sym apart
   ]
 
-same_function : (f g : Option ℕ) → nat_eq (one_higher f) (one_higher g) ≡ option_eq nat_eq f g
+pub same_function : (f g : Option ℕ) → nat_eq (one_higher f) (one_higher g) ≡ option_eq nat_eq f g
 same_function None None = refl
 same_function None (Some m) = grind (arith, nat_tests)
 same_function (Some n) None = grind (arith, nat_tests)

@@ -12,3 +12,4 @@ pub mod Chosen
 pub mod Classes
 pub mod Agree
 pub mod Lifted
+pub mod Wrong

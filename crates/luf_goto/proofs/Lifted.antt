@@ -35,7 +35,7 @@ no_goto = record { token = 0; label = 0; name = []; function = None }
 
 -- ---- rows are maps of what is defined
 
-more : {A : Type 0} (x : A) (xs ys : List A) → xs ≡ ys → x ∷ xs ≡ x ∷ ys
+pub more : {A : Type 0} (x : A) (xs ys : List A) → xs ≡ ys → x ∷ xs ≡ x ∷ ys
 more x xs ys same = ap (λ zs. x ∷ zs) same
 
 module _ (spelled : Spelling) (all : List Occurrence) where
