@@ -13,3 +13,4 @@ pub mod Classes
 pub mod Agree
 pub mod Lifted
 pub mod Wrong
+pub mod Roles

@@ -6,26 +6,29 @@ use Rattle.std.specs.List.{Contains, filter_map, cons_option, list_any}
 use Rattle.std.specs.Option.{option_map, option_map_or, option_eq}
 use Rattle.luf_scope.specs.Local.{Spelling, LocalVariable, is_active, declared_by, locals_of, functions_of, function_of}
 use Rattle.luf_scope.specs.Jump.{LabelAt, GotoAt, is_seen, target, labels_of, gotos_of}
-use Rattle.luf_scope.specs.Fault.{enters, loops_round, break_outside}
+use Rattle.luf_scope.specs.Fault.{enters, loops_round, break_outside, label_twice, without_label, into_scope, jump_faults, first_fault}
 use Rattle.luf_scope.specs.Order.{place, to_of, Within}
 use Rattle.luf_scope.specs.declared.binder.BinderKind.TheVariants as kind
 use Rattle.luf_scope.specs.declared.occurrence.Occurrence.{Occurrence}
 use Rattle.luf_scope.specs.declared.occurrence.Occurrence.TheVariants.{Local, LocalFunction, Parameter, ImplicitSelf, LoopVariable, Function, Loop, Break}
-use Rattle.luf_scope.proofs.Ordered.{LocalsNest, locals_nest, declared_is, all_given}
+use Rattle.luf_scope.proofs.Ordered.{LocalsNest, locals_nest, declared_is, all_given, pairs_given}
 use Rattle.luf_goto.specs.declared.holders.Extent.{Extent}
 use Rattle.luf_goto.specs.declared.holders.Spot.{Spot}
 use Rattle.luf_goto.specs.declared.sites.LabelRow.{LabelRow}
 use Rattle.luf_goto.specs.declared.sites.GotoRow.{GotoRow}
-use Rattle.luf_goto.specs.inner.Holders.{holds, one_higher, extent_at}
-use Rattle.luf_goto.specs.inner.Faults.{first_token}
+use Rattle.luf_goto.specs.inner.Holders.{holds, one_higher, extent_at, spot_at}
+use Rattle.luf_goto.specs.inner.Faults.{first_bad, first_token}
 use Rattle.luf_goto.specs.inner.Firsts.{first_where, is_held}
-use Rattle.luf_goto.specs.inner.Innermost.{key_of, IsInnermost}
+use Rattle.luf_goto.specs.inner.Innermost.{key_of, IsInnermost, AreInnermost}
 use Rattle.luf_goto.specs.inner.Leaps.{first_failing, has_none, is_apart, enters_scope}
-use Rattle.luf_goto.specs.inner.Rows.{seen_extent, name_spot, scope_extent}
+use Rattle.luf_goto.specs.inner.Rows.{seen_extent, name_spot, scope_extent, scope_spot}
 use Rattle.luf_goto.specs.inner.Sites.{IsInOrder, home_of, loop_extent, break_spot}
 use Rattle.luf_goto.proofs.Agree.{any_through, any_agree, any_none, any_some, given_agree}
 use Rattle.luf_goto.proofs.Classes.{names_of, row_of, goto_row_of, seen_before, same_function}
-use Rattle.luf_goto.proofs.Lifted.{Stands, more, label_there}
+use Rattle.luf_goto.proofs.Lifted.{Stands, more, no_label, label_there, labels_rise, gotos_rise}
+use Rattle.luf_goto.proofs.Chosen.{Choice, IsChosen, innermost_chosen}
+use Rattle.luf_goto.proofs.Places.{places_rise}
+use Rattle.luf_goto.proofs.Told.{first_bad_is}
 use Rattle.luf_goto.proofs.Lists.{map_through}
 
 -- the first spot, of what gives spots
@@ -201,3 +204,63 @@ module _ (V : List LocalVariable) (nest : AllPairs LocalsNest V) (few : All (λ 
           let low = ltb-false place e.from outside.0 in
           let high = leb-false e.to place outside.1 in
           active_from place (get_or V i d) (omega (arith, r.0, f, low)) (omega (arith, r.1, t, high))
+
+guarded : (b : Bool) (A B : LocalVariable → Bool) (V : List LocalVariable) → (b && list_any (λ v. A v && B v) V) ≡ list_any (λ v. b && A v && B v) V
+guarded true A B V = refl
+guarded false A B V = sym (any_none (λ v. false && A v && B v) V (λ i d h. refl))
+
+locals_few : (spelled : Spelling) (os : List Occurrence) → IsInOrder os → All (λ v. v.to < 2 ^ 32) (locals_of spelled os)
+locals_few spelled os lies = all_given (Within 0 lies.tokens lies.tokens) (λ v. v.to < 2 ^ 32) (declared_by spelled)
+    (λ o v w is. let d = declared_is spelled o v is in let t = lies.few in ⊎_elim (λ (h : to_of o ≡ lies.tokens). omega (arith, d.to, h, t)) (λ (h : to_of o ≤ lies.tokens). omega (arith, d.to, h, t)) (w.opens d.is).ends)
+    os lies.order.within
+
+module _ (spelled : Spelling) (os : List Occurrence) (lies : IsInOrder os) (L : List LabelAt) (names : List (ℕ × List ℕ)) (scopes : List (Option Extent))
+    (inner : AreInnermost (filter_map scope_extent os) (map scope_spot (map (row_of names) L)) scopes) where
+  scope_here : (u : ℕ) (l : LabelAt) → u < length L → l ≡ get_or L u no_label → IsInnermost (map scope_of (locals_of spelled os)) (record { class = 0; place = l.token }) (get_or scopes u None)
+  scope_here u l inside at =
+      let spot : spot_at (map scope_spot (map (row_of names) L)) u ≡ record { class = 0; place = l.token } =
+          ap (λ xs. spot_at xs u) (map_through (row_of names) scope_spot (λ (x : LabelAt). scope_spot (row_of names x)) (λ x. refl) L)
+          ∙ get_or-map (λ (x : LabelAt). scope_spot (row_of names x)) L u no_label _ inside ∙ ap (λ (x : LabelAt). scope_spot (row_of names x)) (sym at) in
+      subst (λ s. IsInnermost (map scope_of (locals_of spelled os)) s (get_or scopes u None)) spot
+      (subst (λ es. IsInnermost es (spot_at (map scope_spot (map (row_of names) L)) u) (get_or scopes u None)) (scopes_are spelled os)
+        (inner.each u (omega (arith, length-map (map (row_of names) L) scope_spot, length-map L (row_of names)))))
+
+  one_entering : (g : GotoAt) (seen : LabelAt → Bool) (c : Choice) → IsChosen seen 0 L c → enters_scope (map (row_of names) L) scopes g.token (option_map (λ (t : ℕ × LabelAt). t.0) c) ≡ option_map_or (λ (t : ℕ × LabelAt). list_any (enters spelled os g t.1) (locals_of spelled os)) c false
+  one_entering g seen None none = refl
+  one_entering g seen (Some (n, l)) (u, is, inside, at, here, most) =
+      ap (λ m. enters_scope (map (row_of names) L) scopes g.token (Some m)) (is ∙ zero-add u)
+      ∙ ap (λ b. not b && is_apart (get_or scopes u None) g.token) (ap (λ (r : LabelRow). r.at_end) (get_or-map (row_of names) L u no_label _ inside) ∙ ap (λ (x : LabelAt). x.at_end) (sym (at no_label)))
+      ∙ ap (λ b. not l.at_end && b) (apart_is (locals_of spelled os) (locals_nest 0 lies.tokens lies.tokens os spelled lies.order) (locals_few spelled os lies) l.token g.token (get_or scopes u None) (scope_here u l inside (at no_label)))
+      ∙ guarded (not l.at_end) (is_active l.token) (λ v. not (is_active g.token v)) (locals_of spelled os)
+
+  pub entering_is : (G : List GotoAt) → first_failing (enters_scope (map (row_of names) L) scopes) (map (goto_row_of names) G) (map (λ g. option_map (λ (t : ℕ × LabelAt). t.0) (target L g)) G) ≡ first_token (filter_map (λ g. cond (option_map_or (λ (t : ℕ × LabelAt). list_any (enters spelled os g t.1) (locals_of spelled os)) (target L g) false) (Some g.token) None) G)
+  entering_is G =
+      failing_given (enters_scope (map (row_of names) L) scopes) (goto_row_of names) (λ g. option_map (λ (t : ℕ × LabelAt). t.0) (target L g)) (λ g. refl) G
+      ∙ ap first_token (given_agree (λ g. cond (enters_scope (map (row_of names) L) scopes g.token (option_map (λ (t : ℕ × LabelAt). t.0) (target L g))) (Some g.token) None) (λ g. cond (option_map_or (λ (t : ℕ × LabelAt). list_any (enters spelled os g t.1) (locals_of spelled os)) (target L g) false) (Some g.token) None) G
+          (λ i d h. ap (λ b. cond b (Some (get_or G i d).token) None)
+              (one_entering (get_or G i d) (is_seen (get_or G i d).function (get_or G i d).token (get_or G i d).name) (target L (get_or G i d)) (innermost_chosen (is_seen (get_or G i d).function (get_or G i d).token (get_or G i d).name) 0 L))))
+
+-- ---- all of them
+
+when_token : (b : Bool) (t a : ℕ) → cond b (Some t) None ≡ Some a → a ≡ t
+when_token true t a is = sym (ap (λ o. option_map_or (λ (n : ℕ). n) o 0) is)
+when_token false t a is = absurd cc
+
+tokens_rise : {X : Type 0} (test : X → Bool) (token : X → ℕ) (xs : List X) → AllPairs (λ u v. token u ≤ token v) xs → AllPairs (λ a b. a ≤ b) (filter_map (λ x. cond (test x) (Some (token x)) None) xs)
+tokens_rise test token xs rise = pairs_given (λ u v. token u ≤ token v) (λ a b. a ≤ b) (λ x. cond (test x) (Some (token x)) None)
+    (λ x y a b up one two. let p = when_token (test x) (token x) a one in let q = when_token (test y) (token y) b two in omega (arith, up, p, q)) xs rise
+
+outside_token : (spelled : Spelling) (all : List Occurrence) (o : Occurrence) (a : ℕ) → break_outside spelled all o ≡ Some a → a ≡ place o
+outside_token spelled all (Break token) a is = when_token (not (list_any (loops_round spelled all token) all)) token a is
+outside_token spelled all _ a is = absurd cc
+
+pub told_first :
+    (spelled : Spelling) (os : List Occurrence) → IsInOrder os
+    → first_bad (first_token (filter_map (label_twice spelled os) (labels_of spelled os))) (first_token (filter_map (without_label spelled os) (gotos_of spelled os))) (first_token (filter_map (into_scope spelled os) (gotos_of spelled os))) (first_token (filter_map (break_outside spelled os) os))
+    ≡ first_fault (jump_faults spelled os)
+told_first spelled os lies = sym (first_bad_is (filter_map (label_twice spelled os) (labels_of spelled os)) (filter_map (without_label spelled os) (gotos_of spelled os)) (filter_map (into_scope spelled os) (gotos_of spelled os)) (filter_map (break_outside spelled os) os)
+    (tokens_rise (λ l. list_any (λ u. nat_lt u.token l.token && is_seen l.function l.token l.name u) (labels_of spelled os)) (λ (l : LabelAt). l.token) (labels_of spelled os) (labels_rise spelled os lies))
+    (tokens_rise (λ g. is_none (target (labels_of spelled os) g)) (λ (g : GotoAt). g.token) (gotos_of spelled os) (gotos_rise spelled os lies))
+    (tokens_rise (λ g. option_map_or (λ (t : ℕ × LabelAt). list_any (enters spelled os g t.1) (locals_of spelled os)) (target (labels_of spelled os) g) false) (λ (g : GotoAt). g.token) (gotos_of spelled os) (gotos_rise spelled os lies))
+    (pairs_given (λ u v. place u ≤ place v) (λ a b. a ≤ b) (break_outside spelled os)
+        (λ x y a b up one two. let p = outside_token spelled os x a one in let q = outside_token spelled os y b two in omega (arith, up, p, q)) os (places_rise os lies)))
