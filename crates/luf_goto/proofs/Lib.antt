@@ -14,3 +14,4 @@ pub mod Agree
 pub mod Lifted
 pub mod Wrong
 pub mod Roles
+pub mod Final

@@ -39,22 +39,22 @@ pub more : {A : Type 0} (x : A) (xs ys : List A) → xs ≡ ys → x ∷ xs ≡ 
 more x xs ys same = ap (λ zs. x ∷ zs) same
 
 module _ (spelled : Spelling) (all : List Occurrence) where
-  label_rows : (N : List Name) (os : List Occurrence) → map (numbered_label spelled N) (filter_map (label_row all) os) ≡ map (row_of N) (filter_map (label_by spelled (functions_of all)) os)
+  pub label_rows : (N : List Name) (os : List Occurrence) → map (numbered_label spelled N) (filter_map (label_row all) os) ≡ map (row_of N) (filter_map (label_by spelled (functions_of all)) os)
   label_rows N [] = refl
   label_rows N (Label name from to at_end ∷ os) = more _ _ _ (label_rows N os)
   label_rows N (_ ∷ os) = label_rows N os
 
-  goto_rows : (N : List Name) (os : List Occurrence) → map (numbered_goto spelled N) (filter_map (goto_row all) os) ≡ map (goto_row_of N) (filter_map (goto_by spelled (functions_of all)) os)
+  pub goto_rows : (N : List Name) (os : List Occurrence) → map (numbered_goto spelled N) (filter_map (goto_row all) os) ≡ map (goto_row_of N) (filter_map (goto_by spelled (functions_of all)) os)
   goto_rows N [] = refl
   goto_rows N (Goto token name ∷ os) = more _ _ _ (goto_rows N os)
   goto_rows N (_ ∷ os) = goto_rows N os
 
-  label_names : (os : List Occurrence) → map (label_name spelled) (filter_map (label_row all) os) ≡ map label_key (filter_map (label_by spelled (functions_of all)) os)
+  pub label_names : (os : List Occurrence) → map (label_name spelled) (filter_map (label_row all) os) ≡ map label_key (filter_map (label_by spelled (functions_of all)) os)
   label_names [] = refl
   label_names (Label name from to at_end ∷ os) = more _ _ _ (label_names os)
   label_names (_ ∷ os) = label_names os
 
-  goto_names : (os : List Occurrence) → map (goto_name spelled) (filter_map (goto_row all) os) ≡ map goto_key (filter_map (goto_by spelled (functions_of all)) os)
+  pub goto_names : (os : List Occurrence) → map (goto_name spelled) (filter_map (goto_row all) os) ≡ map goto_key (filter_map (goto_by spelled (functions_of all)) os)
   goto_names [] = refl
   goto_names (Goto token name ∷ os) = more _ _ _ (goto_names os)
   goto_names (_ ∷ os) = goto_names os

@@ -33,6 +33,8 @@ pub fn labels(alloc: Global, src: &[u8], cut: &Cut, c: &Chunk) -> Result<Jumps, 
     ensures bad { IfErr result (λ e. IfBad e (λ b. first_fault (jump_faults (spelling_in src.now cut.now) (occurrences_of c.now)) ≡ Some b)) }
 {
     let os = occurrences(alloc, c)?;
+    // Each token has a number, and so has the place behind the last one.
+    let _tokens = cut.tokens();
     jumps_of(alloc, src, cut, os.as_slice())
 }
 
