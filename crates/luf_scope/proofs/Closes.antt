@@ -1,5 +1,5 @@
 -- A `close` behind another of its statement, read off those before it.
-use Rattle.std.proofs.Common.{◌≡◌, ℕ, ◌+◌, ◌<◌, ◌≤◌, Bool, true, false, ◌&&◌, ◌||◌, cond, nat_eq, nat_lt, bytes_eq, codes, Option, Some, None, List, [], ◌∷◌, ◌++◌, length, get_or, take, drop, refl, sym, ap, ◌∙◌, subst, arith, All}
+use Rattle.std.proofs.Common.{◌≡◌, ℕ, ◌+◌, ◌<◌, ◌≤◌, Bool, true, false, ◌&&◌, ◌||◌, cond, nat_eq, nat_lt, bytes_eq, codes, Some, None, List, [], ◌∷◌, ◌++◌, length, get_or, take, drop, refl, sym, ap, ◌∙◌, arith, All}
 use Rattle.std.specs.List.{list_any}
 use Rattle.std.specs.Option.{option_map_or, option_and_then}
 use Rattle.std.proofs.lemmas.Bool.Decides.{nat_tests}
@@ -11,7 +11,7 @@ use Rattle.luf_scope.specs.Local.{Spelling}
 use Rattle.luf_scope.specs.Order.{place, behind, is_loop}
 use Rattle.luf_scope.specs.declared.occurrence.Occurrence.{Occurrence}
 use Rattle.luf_scope.specs.declared.occurrence.Occurrence.TheVariants.{Local}
-use Rattle.luf_scope.specs.inner.Laid.{AreLaid, close_of, closes_at, second_among}
+use Rattle.luf_scope.specs.inner.Laid.{AreLaid, closes_at, second_among}
 use Rattle.luf_scope.proofs.Laying.{all_ended, all_behind, all_stand}
 use Rattle.luf_scope.proofs.Mapped.{dropped}
 
@@ -19,7 +19,7 @@ any_same : {X : Type 0} (p q : X → Bool) (xs : List X) → All (λ x. p x ≡ 
 any_same p q [] same = refl
 any_same p q (x ∷ xs) same = ap (λ b. b || list_any p xs) (All-head (λ y. p y ≡ q y) x xs same) ∙ ap (λ b. q x || b) (any_same p q xs (All-tail (λ y. p y ≡ q y) x xs same))
 
-any_none : {X : Type 0} (p : X → Bool) (xs : List X) → All (λ x. p x ≡ false) xs → list_any p xs ≡ false
+pub any_none : {X : Type 0} (p : X → Bool) (xs : List X) → All (λ x. p x ≡ false) xs → list_any p xs ≡ false
 any_none p [] none = refl
 any_none p (x ∷ xs) none = ap (λ b. b || list_any p xs) (All-head (λ y. p y ≡ false) x xs none) ∙ any_none p xs (All-tail (λ y. p y ≡ false) x xs none)
 
@@ -64,7 +64,7 @@ module _ (spelled : Spelling) (os : List Occurrence) (i : ℕ) (laid : AreLaid o
       let split : os ≡ take i os ++ get_or os i d ∷ drop (i + 1) os = sym (take-append-drop i os) ∙ ap (λ r. take i os ++ r) (dropped os i d inside) in
       let self : test (get_or os i d) ≡ false = ap test here ∙ later_close (bytes_eq (spelled a) (codes "close")) (nat_eq from from) a a (let low : a ≤ a = omega arith in grind (arith, nat_tests)) in
       let none : list_any test (get_or os i d ∷ drop (i + 1) os) ≡ false = any_none test (get_or os i d ∷ drop (i + 1) os) (All-cons (λ u. test u ≡ false) (get_or os i d) (drop (i + 1) os) self
-          (λ j e within. not_behind spelled os from a (get_or (drop (i + 1) os) j e) (let b : behind (get_or os i d) ≤ place (get_or (drop (i + 1) os) j e) = all_behind os i laid inside d j e within in omega arith) (all_stand os i laid inside j e within))) in
+      (λ j e within. not_behind spelled os from a (get_or (drop (i + 1) os) j e) (let b : behind (get_or os i d) ≤ place (get_or (drop (i + 1) os) j e) = all_behind os i laid inside d j e within in omega arith) (all_stand os i laid inside j e within))) in
       ap (list_any test) split
       ∙ list_any-append test (take i os) (get_or os i d ∷ drop (i + 1) os)
       ∙ ap (λ b. list_any test (take i os) || b) none

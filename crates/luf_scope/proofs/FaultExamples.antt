@@ -1,12 +1,10 @@
 -- Small chunks, each with its first fault, or none, by computation.
-use Rattle.std.specs.Prelude.{◌≡◌, ℕ, Bool, true, false, Option, Some, None, List, [], ◌∷◌, slice_get, unwrap_or, codes}
+use Rattle.std.specs.Prelude.{◌≡◌, ℕ, false, Option, Some, None, List, [], ◌∷◌, slice_get, unwrap_or, codes}
 use Rattle.std.proofs.Common.{refl}
 use Rattle.luf_tree.specs.Syntax as syntax
 use Rattle.luf_tree.specs.TokenSyntax.{from_to}
 use Rattle.luf_tree.specs.TokenSyntax as tokens
 use Rattle.luf_scope.specs.Occurrences.{occurrences_in_block}
-use Rattle.luf_scope.specs.Local.{Spelling}
-use Rattle.luf_scope.specs.Role.{role_of}
 use Rattle.luf_scope.specs.Fault.{name_faults, jump_faults, first_fault}
 use Rattle.luf_scope.specs.declared.fault.ScopeBad.{ScopeBad}
 use Rattle.luf_scope.specs.declared.fault.ScopeWhat.{ScopeWhat}

@@ -1,11 +1,9 @@
 -- The first fault of a word, found in the order of a list.
-use Rattle.std.proofs.Common.{◌≡◌, ℕ, ◌+◌, ◌<◌, ◌≤◌, Bool, true, false, cond, Option, Some, None, List, [], ◌∷◌, ◌++◌, map, length, get_or, slice_get, drop, refl, sym, ap, ◌∙◌, arith}
+use Rattle.std.proofs.Common.{◌≡◌, ℕ, ◌+◌, ◌<◌, ◌≤◌, Bool, false, cond, Option, Some, None, List, length, get_or, slice_get, drop, sym, ap, ◌∙◌}
 use Rattle.std.specs.Option.{option_or, option_map, option_map_or, option_and_then}
 use Rattle.std.proofs.lemmas.List.{drop_all}
-use Rattle.std.proofs.lemmas.Option.{slice_get-map}
 use Rattle.luf_scope.specs.Fault as fault
-use Rattle.luf_scope.specs.Local.{Spelling, LocalVariable, locals_of, binder_of}
-use Rattle.luf_scope.specs.declared.fault.ScopeBad.{ScopeBad}
+use Rattle.luf_scope.specs.Local.{Spelling, locals_of}
 use Rattle.luf_scope.specs.declared.fault.ScopeWhat.{ScopeWhat}
 use Rattle.luf_scope.specs.declared.occurrence.Occurrence.{Occurrence}
 use Rattle.luf_scope.specs.declared.occurrence.Occurrence.TheVariants.{Assigns}
@@ -25,9 +23,6 @@ module _ (what : ScopeWhat) (test : Occurrence → Option ℕ) (os : List Occurr
 
   pub nowhere : length os ≤ i → first_at what test (drop i os) ≡ first_at what test os → None ≡ first_at what test os
   nowhere past before = ap (first_at what test) (sym (drop_all i os past)) ∙ before
-
-kind_kept : (v : LocalVariable) → (binder_of v).kind ≡ v.kind
-kind_kept v = refl
 
 -- a name that is assigned, by what it means
 pub assigned_constant : (spelled : Spelling) (all : List Occurrence) (o : Occurrence) (token : ℕ) (meaning : Option ℕ) (r : Bool) → o ≡ Assigns token → meaning ≡ meaning_of spelled (locals_of spelled all) o → r ≡ option_map_or fault.is_constant (option_and_then (slice_get (locals_of spelled all)) meaning) false → cond r (Some token) None ≡ fault.constant_assigned spelled all o

@@ -1,15 +1,15 @@
 -- The function that holds a `...`, read off a stack of those that have begun.
-use Rattle.std.proofs.Common.{◌≡◌, ℕ, zero, suc, ◌+◌, ◌-◌, ◌<◌, ◌≤◌, ◌⊎◌, inl, inr, Bool, true, false, ◌&&◌, not, cond, nat_eq, nat_le, nat_lt, Option, Some, None, IfSome, List, [], ◌∷◌, ◌++◌, length, get_or, slice_get, take, drop, refl, sym, ap, ◌∙◌, subst, arith, All, AllPairs}
-use Rattle.std.specs.List.{filter_map, cons_option}
+use Rattle.std.proofs.Common.{◌≡◌, ℕ, suc, ◌+◌, ◌-◌, ◌<◌, ◌≤◌, Bool, true, false, ◌&&◌, not, cond, nat_le, nat_lt, Option, Some, None, IfSome, List, [], ◌∷◌, ◌++◌, length, get_or, slice_get, take, drop, refl, sym, ap, ◌∙◌, subst, arith}
+use Rattle.std.specs.List.{cons_option}
 use Rattle.std.specs.Option.{option_or, option_map, option_map_or, option_and_then, option_to_list}
 use Rattle.std.proofs.lemmas.Bool.Decides.{nat_tests}
-use Rattle.std.proofs.lemmas.List.{take_more, take-append-drop, get_or-drop, get_or-take, length-drop, length-take-le}
-use Rattle.std.proofs.lemmas.List.Elements.{All-head, All-tail, All-cons, All-nil, filter_map-append}
+use Rattle.std.proofs.lemmas.List.{take_more, take-append-drop}
+use Rattle.std.proofs.lemmas.List.Elements.{filter_map-append}
 use Rattle.luf_scope.specs.Fault as fault
-use Rattle.luf_scope.specs.Local.{Spelling, FunctionAt, function_by, functions_of, function_of, is_held, last_passing}
-use Rattle.luf_scope.specs.Order.{place, behind, is_loop}
+use Rattle.luf_scope.specs.Local.{Spelling, FunctionAt, function_by, functions_of, is_held, last_passing}
+use Rattle.luf_scope.specs.Order.{place, behind}
 use Rattle.luf_scope.specs.declared.occurrence.Occurrence.{Occurrence}
-use Rattle.luf_scope.specs.declared.occurrence.Occurrence.TheVariants.{Local, Function, Loop, Varargs}
+use Rattle.luf_scope.specs.declared.occurrence.Occurrence.TheVariants.{Function, Varargs}
 use Rattle.luf_scope.specs.declared.stacks.Held.{Held}
 use Rattle.luf_scope.specs.inner.Last.{last_such, outlasts}
 use Rattle.luf_scope.specs.inner.Laid.{AreLaid, Tells, varargs_among}
@@ -67,13 +67,13 @@ module _ (os : List Occurrence) (i : ℕ) (laid : AreLaid os) (inside : i < leng
         let split : functions_of os ≡ functions_of (take i os) ++ functions_of (drop i os) = ap functions_of (sym (take-append-drop i os)) ∙ filter_map-append function_by (take i os) (drop i os) in
         let after : functions_of (drop i os) ≡ functions_of (drop (i + 1) os) = ap functions_of (dropped os i d inside ∙ ap (λ u. u ∷ drop (i + 1) os) here) in
         let none : last_such (is_held token) (functions_of (drop (i + 1) os)) ≡ None = last_none (is_held token) (functions_of (drop (i + 1) os)) (all_filter_map function_by (λ f. is_held token f ≡ false) (drop (i + 1) os)
-            (λ j e within. unbegun (get_or (drop (i + 1) os) j e) (let b : behind (get_or os i d) ≤ place (get_or (drop (i + 1) os) j e) = all_behind os i laid inside d j e within in let n : behind (get_or os i d) ≡ token + 1 = ap behind here in omega arith))) in
+        (λ j e within. unbegun (get_or (drop (i + 1) os) j e) (let b : behind (get_or os i d) ≤ place (get_or (drop (i + 1) os) j e) = all_behind os i laid inside d j e within in let n : behind (get_or os i d) ≡ token + 1 = ap behind here in omega arith))) in
         ap (last_such (is_held token)) split
         ∙ last_append (is_held token) (functions_of (take i os)) (functions_of (drop i os))
         ∙ ap (λ fs. option_or (last_such (is_held token) fs) (last_such (is_held token) (functions_of (take i os)))) after
         ∙ ap (λ o. option_or o (last_such (is_held token) (functions_of (take i os)))) none
         ∙ last_same (is_held token) (λ f. nat_lt token f.to) (functions_of (take i os)) (all_filter_map function_by (λ f. is_held token f ≡ nat_lt token f.to) (take i os)
-            (λ j e within. begun (get_or (take i os) j e) (let b : place (get_or (take i os) j e) ≤ place (get_or os i d) = all_before os i laid inside d j e within in let n : place (get_or os i d) ≡ token = ap place here in omega arith)))
+        (λ j e within. begun (get_or (take i os) j e) (let b : place (get_or (take i os) j e) ≤ place (get_or os i d) = all_before os i laid inside d j e within in let n : place (get_or os i d) ≡ token = ap place here in omega arith)))
 
   same_at : (spelled : Spelling) (d o : Occurrence) → get_or os i d ≡ o → varargs_among (functions_of (take i os)) o ≡ fault.varargs_outside spelled os o
   same_at spelled d (Varargs token) here = ap (λ f. cond (option_map_or (λ f. not f.vararg) f false) (Some token) None) (sym (held_by_begun d token here) ∙ sym (last_by_number (is_held token) (functions_of os)))

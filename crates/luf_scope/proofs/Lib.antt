@@ -1,4 +1,5 @@
 mod FaultExamples
+mod RoleExamples
 pub mod Added
 pub mod TreeReads
 pub mod Solid
@@ -19,3 +20,8 @@ pub mod Functions
 pub mod Laying
 pub mod Closes
 pub mod Roled
+pub mod Counted
+pub mod Told
+pub mod Meant
+pub mod Named
+pub mod RoleFound

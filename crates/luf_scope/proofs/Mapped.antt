@@ -1,5 +1,5 @@
 -- A loop that adds what each item gives.
-use Rattle.std.proofs.Common.{◌≡◌, ℕ, suc, ◌+◌, ◌<◌, List, [], ◌∷◌, ◌++◌, map, length, get_or, drop, drop-cons, append_assoc, add-one, AllPairs, refl, sym, ap, ◌∙◌, subst, arith}
+use Rattle.std.proofs.Common.{◌≡◌, ℕ, ◌+◌, ◌<◌, List, [], ◌∷◌, ◌++◌, map, length, get_or, drop, drop-cons, append_assoc, add-one, AllPairs, refl, sym, ap, ◌∙◌, subst, arith}
 use Rattle.std.proofs.lemmas.List.{get_or_default, get_or-map, length-map}
 
 pub dropped : {X : Type 0} (xs : List X) (i : ℕ) (d : X) → i < length xs → drop i xs ≡ get_or xs i d ∷ drop (i + 1) xs
@@ -22,3 +22,7 @@ pub given_at : {X Y : Type 0} (f : X → Y) (xs : List X) (ys : List Y) (i : ℕ
 given_at f xs ys i d r is inside reads =
     let long : length ys ≡ length xs = ap length is ∙ length-map xs f in
     reads (f d) (omega arith) ∙ ap (λ zs. get_or zs i (f d)) is ∙ get_or-map f xs i d (f d) inside
+
+pub map_each : {X Y : Type 0} (f g : X → Y) (xs : List X) → ((x : X) → f x ≡ g x) → map f xs ≡ map g xs
+map_each f g [] same = refl
+map_each f g (x ∷ xs) same = ap (λ y. y ∷ map f xs) (same x) ∙ ap (λ ys. g x ∷ ys) (map_each f g xs same)

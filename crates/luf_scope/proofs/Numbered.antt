@@ -1,15 +1,12 @@
 -- The numbers of names.
-use Rattle.std.proofs.Common.{◌≡◌, ℕ, ◌+◌, ◌<◌, ◌≤◌, ◌≢◌, Bool, true, false, cond, nat_eq, Option, Some, None, is_some, List, [], ◌∷◌, ◌++◌, length, get_or, bytes_eq, refl, sym, ap, ◌∙◌, subst, arith, Bor}
+use Rattle.std.proofs.Common.{◌≡◌, ℕ, Bool, true, false, cond, Option, Some, None, is_some, List, bytes_eq, refl, sym, ap, ◌∙◌, Bor}
 use Rattle.std.specs.BTreeMap.{BTreeMap, UpdatesBy}
 use Rattle.std.specs.Cmp.Lexicographic.{slice_cmp}
-use Rattle.std.specs.List.{position_from}
-use Rattle.std.specs.Map.{update}
 use Rattle.std.specs.Option.{option_or}
 use Rattle.std.specs.Ordering.{nat_cmp}
 use Rattle.std.proofs.lemmas.Map.Text.{btree_map_updates_str}
 use Rattle.std.proofs.lemmas.Slice.Eq.{bytes_eq-Decides}
-use Rattle.luf_scope.specs.Local.{LocalVariable}
-use Rattle.luf_scope.specs.inner.Scopes.{number_in, name_number}
+use Rattle.luf_scope.specs.inner.Scopes.{number_in}
 
 is_none_of : (o : Option ℕ) → is_some o ≡ false → o ≡ None
 is_none_of None h = refl

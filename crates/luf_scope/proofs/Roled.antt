@@ -1,5 +1,5 @@
 -- The roles of tokens, one occurrence after another.
-use Rattle.std.proofs.Common.{◌≡◌, ℕ, ◌+◌, ◌-◌, ◌<◌, ◌≤◌, Bool, true, false, cond, Option, Some, None, List, [], ◌∷◌, ◌++◌, length, get_or, drop, append_assoc, refl, sym, ap, ◌∙◌, arith, All}
+use Rattle.std.proofs.Common.{◌≡◌, ℕ, ◌+◌, ◌<◌, ◌≤◌, Bool, true, false, cond, Option, Some, None, List, [], ◌∷◌, ◌++◌, length, get_or, drop, append_assoc, refl, sym, ap, ◌∙◌, arith, All}
 use Rattle.std.specs.List.{cons_option, count_by}
 use Rattle.std.specs.Option.{option_to_list}
 use Rattle.std.proofs.lemmas.List.Elements.{All-cons, All-nil, All-append, All-same}
@@ -55,5 +55,5 @@ module _ (os : List Occurrence) (i : ℕ) (d : Occurrence) (inside : i < length 
   pub low_on : (laid : AreLaid os) (m : Option ℕ) (old new : List (ℕ × Role)) (j : ℕ) (e : Occurrence) → i < j → j < length os → All (λ (r : ℕ × Role). r.0 < place (get_or os j e)) old → new ≡ old ++ option_to_list (role_here n m (get_or os i d)) → All (λ (r : ℕ × Role). r.0 < place (get_or os j e)) new
   low_on laid m old new j e less within low added =
       let all : All (λ (r : ℕ × Role). r.0 < place (get_or os j e)) (old ++ option_to_list (role_here n m (get_or os i d))) = All-append (λ (r : ℕ × Role). r.0 < place (get_or os j e)) old (option_to_list (role_here n m (get_or os i d))) low
-          (role_low n m (get_or os i d) (place (get_or os j e)) (pair_at (λ u v. behind u ≤ place v) os i j d e laid.later less within) (laid.stands i d inside)) in
+      (role_low n m (get_or os i d) (place (get_or os j e)) (pair_at (λ u v. behind u ≤ place v) os i j d e laid.later less within) (laid.stands i d inside)) in
       All-same (λ (r : ℕ × Role). r.0 < place (get_or os j e)) new (old ++ option_to_list (role_here n m (get_or os i d))) added all

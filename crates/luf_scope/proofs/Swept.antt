@@ -1,7 +1,7 @@
 -- A sweep over scopes: one scope is entered, a name is looked up.
-use Rattle.std.proofs.Common.{◌≡◌, ℕ, ◌+◌, ◌-◌, ◌<◌, ◌≤◌, ◌≢◌, ◌⊎◌, inl, inr, Bool, true, false, ◌&&◌, cond, nat_eq, nat_le, nat_lt, Option, Some, None, List, [], ◌∷◌, ◌++◌, length, get_or, slice_get, slice_set, slice_index_or, take, drop, refl, sym, ap, ◌∙◌, subst, arith, All, AllPairs}
+use Rattle.std.proofs.Common.{◌≡◌, ℕ, ◌+◌, ◌<◌, ◌≤◌, ◌≢◌, ◌⊎◌, inl, inr, true, false, ◌&&◌, cond, nat_eq, nat_lt, Option, Some, List, [], ◌∷◌, ◌++◌, length, get_or, slice_set, take, drop, refl, sym, ap, ◌∙◌, subst, arith, All, AllPairs}
 use Rattle.std.specs.Global.{Vec}
-use Rattle.std.specs.Option.{option_or, option_map, option_map_or, option_and_then}
+use Rattle.std.specs.Option.{option_or, option_map, option_map_or}
 use Rattle.std.proofs.lemmas.Bool.{cases_lt}
 use Rattle.std.proofs.lemmas.Bool.Decides.{nat_tests}
 use Rattle.std.proofs.lemmas.List.{take-append-drop, get_or-drop, length-drop, length-set, get_or-set_same, get_or-set_other}
@@ -10,7 +10,7 @@ use Rattle.std.proofs.lemmas.Option.{slice_get-get_or, slice_get_past}
 use Rattle.luf_scope.specs.declared.scopes.Scope.{Scope}
 use Rattle.luf_scope.specs.declared.stacks.Held.{Held}
 use Rattle.luf_scope.specs.inner.Last.{last_such, outlasts}
-use Rattle.luf_scope.specs.inner.Scopes.{is_meant, meant_at}
+use Rattle.luf_scope.specs.inner.Scopes.{is_meant}
 use Rattle.luf_scope.specs.inner.Sweep.{IsSweep, stack_at, reaches}
 use Rattle.luf_scope.proofs.Lasts.{last_append, last_snoc, last_take, last_none, last_same, map_cond}
 
@@ -43,24 +43,6 @@ reaches_same k later s is = let yes_eq : nat_eq s.name k ≡ true = grind (arith
 
 reaches_other : (k later : ℕ) (s : Scope) → k ≢ s.name → reaches k later s ≡ false
 reaches_other k later s apart = let no_eq : nat_eq s.name k ≡ false = grind (arith, nat_tests) in ap (λ b. b && nat_lt later s.to) no_eq
-
--- nothing has begun yet
-pub swept_none : (scopes : List Scope) (stacks : List (Vec (Held ℕ))) → length stacks ≡ length scopes → All (λ v. v.items ≡ []) stacks → IsSweep scopes 0 0 stacks
-swept_none scopes stacks count empty = record {
-  within = omega arith;
-  begun = λ i d inside. absurd (omega arith);
-  count = count;
-  tell = λ k later le. ap (λ items. option_map (λ h. h.what) (last_such (outlasts later) items)) (nothing k);
-}
-  where
-    nothing : (k : ℕ) → stack_at stacks k ≡ []
-    nothing k = elim (cases_lt k (length stacks)) [
-      | inl inside ↦ elim (slice_get stacks k) as (λ o. slice_get stacks k ≡ o → stack_at stacks k ≡ []) [
-        | None ↦ λ is. ap (λ o. option_map_or (λ v. v.items) o []) is
-        | Some v ↦ λ is. stack_read stacks k v inside ∙ empty k v inside
-      ] refl
-      | inr past ↦ stack_past stacks k past
-    ]
 
 module _ (scopes : List Scope) (place entered : ℕ) (stacks : List (Vec (Held ℕ))) (sweep : IsSweep scopes place entered stacks) where
   module _ (s : Scope) (old new : Vec (Held ℕ)) (inside : entered < length scopes) (is : s ≡ get_or scopes entered s) (ranged : s.name < length scopes) (was : old ≡ get_or stacks s.name old) (pushed : new.items ≡ old.items ++ record { what = s.local; to = s.to } ∷ []) where
@@ -143,7 +125,7 @@ module _ (scopes : List Scope) (place entered : ℕ) (stacks : List (Vec (Held �
         ap (λ items. option_map (λ h. h.what) (last_such (outlasts place) items)) (ap (λ v. v.items) was ∙ sym (stack_read stacks k old there))
         ∙ sweep.tell k place (omega arith)
         ∙ ap (option_map (λ s. s.local))
-          (sym (ap (last_such (is_meant k place)) (sym (take-append-drop entered scopes))
-          ∙ last_append (is_meant k place) (take entered scopes) (drop entered scopes)
-          ∙ ap (λ o. option_or o (last_such (is_meant k place) (take entered scopes))) (last_none (is_meant k place) (drop entered scopes) (none_behind k))
-          ∙ last_same (is_meant k place) (reaches k place) (take entered scopes) (same_before k)))
+        (sym (ap (last_such (is_meant k place)) (sym (take-append-drop entered scopes))
+        ∙ last_append (is_meant k place) (take entered scopes) (drop entered scopes)
+        ∙ ap (λ o. option_or o (last_such (is_meant k place) (take entered scopes))) (last_none (is_meant k place) (drop entered scopes) (none_behind k))
+        ∙ last_same (is_meant k place) (reaches k place) (take entered scopes) (same_before k)))

@@ -1,5 +1,5 @@
 -- What is assigned, by the form of a target.
-use Rattle.std.proofs.Common.{◌≡◌, ℕ, Option, Some, None, List, [], ◌∷◌, refl, ap}
+use Rattle.std.proofs.Common.{◌≡◌, ℕ, Some, None, List, [], ◌∷◌, refl, ap}
 use Rattle.luf_tree.specs.Syntax as syntax
 use Rattle.luf_tree.specs.TokenSyntax as tokens
 use Rattle.luf_scope.specs.Occurrences.{target_of}

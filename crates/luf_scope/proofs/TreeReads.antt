@@ -1,5 +1,5 @@
 -- The syntax of a part, by what a function reads of it.
-use Rattle.std.proofs.Common.{◌≡◌, ℕ, ◌∙◌, sym, ap, List, map}
+use Rattle.std.proofs.Common.{◌≡◌, ◌∙◌, sym, ap, map}
 use Rattle.luf_tree.specs.declared.tree.Expr.{Expr}
 use Rattle.luf_tree.specs.declared.tree.Stat.{Stat}
 use Rattle.luf_tree.specs.declared.tree.Block.{Block}
@@ -12,7 +12,6 @@ use Rattle.luf_tree.specs.declared.tree.ExprKind.{ExprKind}
 use Rattle.luf_tree.specs.declared.tree.ExprKind.TheViews.{out-Expr, out-Stat, out-Args, out-Block, out-Arm, out-Step, out-FuncBody, roll-out-Expr, roll-out-Stat, roll-out-Args, roll-out-Block, roll-out-Arm, roll-out-Step, roll-out-FuncBody}
 use Rattle.luf_tree.specs.Syntax as syntax
 use Rattle.luf_tree.specs.TokenSyntax.{from_to}
-use Rattle.luf_tree.specs.TokenSyntax as tokens
 use Rattle.luf_tree.specs.SyntaxOf.{expressions_of, statements_of, syntax_of_expr, syntax_of_stat, syntax_of_block, syntax_of_arm, syntax_of_args, syntax_of_step, syntax_of_body}
 use Rattle.luf_tree.specs.Grammar.{expression, statement}
 use Rattle.luf_scope.specs.Occurrences.{span_of, body_of, span_of_body}

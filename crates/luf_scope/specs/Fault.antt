@@ -1,6 +1,6 @@
 -- The scope faults of a chunk (Lua 5.4 manual, 3.3.4, 3.3.7 and 3.4.11): for each word the tokens at which it stands,
 -- and the first of all.
-use Rattle.std.specs.Prelude.{◌≡◌, ℕ, Bool, true, false, not, ◌&&◌, ◌||◌, cond, Option, Some, None, List, [], ◌∷◌, ◌++◌, map, slice_get, nat_le, nat_lt, nat_eq, bytes_eq, codes, is_none, if◌then◌else◌}
+use Rattle.std.specs.Prelude.{ℕ, Bool, true, false, not, ◌&&◌, ◌||◌, cond, Option, Some, None, List, [], ◌∷◌, ◌++◌, map, slice_get, nat_le, nat_lt, nat_eq, bytes_eq, codes, is_none, if◌then◌else◌}
 use Rattle.std.specs.List.{filter_map, list_any}
 use Rattle.std.specs.Option.{option_eq, option_map_or, option_and_then}
 use Rattle.luf_scope.specs.Local.{Spelling, LocalVariable, FunctionAt, locals_of, functions_of, function_of, meaning, is_active}

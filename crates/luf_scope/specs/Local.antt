@@ -1,7 +1,7 @@
 -- The local variables of a chunk, and what its names mean (Lua 5.4 manual, 3.5 and 2.2). Names are numbered tokens, and
 -- a spelling says what each is.
-use Rattle.std.specs.Prelude.{ℕ, ◌+◌, Bool, true, false, ◌&&◌, ◌||◌, Option, Some, None, List, [], ◌∷◌, map, length, nat_le, nat_lt, nat_eq, bytes_eq, codes, if◌then◌else◌}
-use Rattle.std.specs.List.{filter_map, list_any}
+use Rattle.std.specs.Prelude.{ℕ, ◌+◌, Bool, true, false, ◌&&◌, ◌||◌, Option, Some, None, List, [], ◌∷◌, nat_le, nat_lt, bytes_eq, codes, if◌then◌else◌}
+use Rattle.std.specs.List.{filter_map}
 use Rattle.std.specs.Option.{option_or}
 use Rattle.luf_scope.specs.declared.binder.Binder.{Binder}
 use Rattle.luf_scope.specs.declared.binder.BinderKind.{BinderKind}

@@ -1,5 +1,5 @@
 -- What stands at some tokens of a source, as a list in the order of the tokens.
-use Rattle.std.specs.Prelude.{◌≡◌, ℕ, ◌<◌, cond, Option, Some, None, List, [], ◌∷◌, nat_eq}
+use Rattle.std.specs.Prelude.{ℕ, ◌<◌, cond, Option, Some, None, List, [], ◌∷◌, nat_eq}
 use Rattle.std.specs.List.{AllPairs}
 
 -- what stands at a token, if something does

@@ -1,7 +1,6 @@
 -- What each token is to the names of a chunk.
-use Rattle.std.specs.Prelude.{ℕ, Bool, true, false, Option, Some, None, List, map, nat_eq, if◌then◌else◌, MatchOption}
+use Rattle.std.specs.Prelude.{ℕ, Bool, false, Option, Some, None, List, nat_eq, if◌then◌else◌}
 use Rattle.std.specs.List.{list_any, position_from}
-use Rattle.std.specs.Option.{option_map_or}
 use Rattle.luf_scope.specs.Local.{Spelling, LocalVariable, locals_of, meaning}
 use Rattle.luf_scope.specs.declared.binder.Role.{Role}
 use Rattle.luf_scope.specs.declared.binder.Role.TheVariants as role

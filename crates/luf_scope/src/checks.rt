@@ -14,13 +14,35 @@ ghost use Rattle.luf_scope.specs.inner.Scopes.{meaning_of};
 use crate::locals::spelled;
 use crate::roles::meaning_at;
 use crate::stacks::{Held, top};
-use crate::{Binder, BinderKind, Memory, Occurrence, ScopeBad, ScopeWhat};
+use crate::{Binder, BinderKind, Memory, Occurrence, ScopeBad, ScopeWhat, first_of};
 use luf_lex::Cut;
 use std::alloc::Global;
 use std::collections::BTreeSet;
 
+// The first fault of a name.
+pub fn name_fault(
+    alloc: Global,
+    src: &[u8],
+    cut: &Cut,
+    os: &[Occurrence],
+    meanings: &[Option<u32>],
+    binders: &[Binder],
+) -> Result<Option<ScopeBad>, Memory>
+    requires cut { IsCut src.now cut.now }
+    requires laid { AreLaid os.now }
+    requires meanings { let spelled = spelling_in src.now cut.now in meanings.now ≡ map (meaning_of spelled (locals_of spelled os.now)) os.now }
+    requires binders { binders.now ≡ map binder_of (locals_of (spelling_in src.now cut.now) os.now) }
+    ensures { IfOk result (λ found. found ≡ fault.first_fault (fault.name_faults (spelling_in src.now cut.now) os.now)) }
+{
+    let unknown = first_unknown(src, cut, os);
+    let second = first_second_close(alloc, src, cut, os)?;
+    let constant = first_constant(os, meanings, binders);
+    let varargs = first_varargs(alloc, os)?;
+    Ok(first_of(first_of(first_of(unknown, second), constant), varargs))
+}
+
 // The first attribute that is neither `const` nor `close`.
-pub fn first_unknown(src: &[u8], cut: &Cut, os: &[Occurrence]) -> Option<ScopeBad>
+fn first_unknown(src: &[u8], cut: &Cut, os: &[Occurrence]) -> Option<ScopeBad>
     requires { IsCut src.now cut.now }
     ensures { result ≡ first_at ScopeWhat.UnknownAttribute (fault.unknown_attribute (spelling_in src.now cut.now) os.now) os.now }
 {
@@ -54,7 +76,7 @@ fn unknown_attribute(src: &[u8], cut: &Cut, o: Occurrence) -> Option<u32>
 }
 
 // The first `close` behind another of its statement.
-pub fn first_second_close(
+fn first_second_close(
     alloc: Global,
     src: &[u8],
     cut: &Cut,
@@ -117,7 +139,7 @@ fn close_of(src: &[u8], cut: &Cut, o: Occurrence) -> Option<(u32, u32)>
 }
 
 // The first name that is assigned, and means a local variable with an attribute.
-pub fn first_constant(
+fn first_constant(
     os: &[Occurrence],
     meanings: &[Option<u32>],
     binders: &[Binder],
@@ -161,7 +183,7 @@ fn is_constant(meaning: Option<u32>, binders: &[Binder]) -> bool
 }
 
 // The first `...` in a function that does not take it.
-pub fn first_varargs(alloc: Global, os: &[Occurrence]) -> Result<Option<ScopeBad>, Memory>
+fn first_varargs(alloc: Global, os: &[Occurrence]) -> Result<Option<ScopeBad>, Memory>
     requires { AreLaid os.now }
     ensures { (spelled : Spelling) → IfOk result (λ found. found ≡ first_at ScopeWhat.VarargOutside (fault.varargs_outside spelled os.now) os.now) }
 {

@@ -22,6 +22,16 @@ impl Model for Links {
 }
 
 impl Links {
+    pub(crate) fn of(tokens: u32, roles: Marks<Role>, binders: Vec<Binder>) -> Links
+        ensures { result ≡ record { tokens = tokens; roles = roles; binders = binders.items } }
+    {
+        Links {
+            tokens,
+            roles,
+            binders,
+        }
+    }
+
     /// What token `token` is; None from the number of tokens on.
     pub fn at(&self, token: u32) -> Option<Role>
         ensures { result ≡ role_at self.now token }

@@ -1,5 +1,5 @@
 -- The last of a list that passes a test, and stacks from which it is read.
-use Rattle.std.specs.Prelude.{◌≡◌, ℕ, Bool, cond, Option, Some, None, List, [], ◌∷◌, nat_lt}
+use Rattle.std.specs.Prelude.{ℕ, Bool, cond, Option, Some, None, List, [], ◌∷◌, nat_lt}
 use Rattle.std.specs.Option.{option_or}
 use Rattle.luf_scope.specs.declared.stacks.Held.{Held}
 

@@ -1,14 +1,13 @@
 -- Scopes of local variables in the order in which they begin, with a number for each name.
-use Rattle.std.specs.Prelude.{◌≡◌, ℕ, ◌+◌, ◌<◌, ◌≤◌, ◌⊎◌, Bool, ◌&&◌, cond, Option, Some, None, List, [], ◌∷◌, length, map, take, slice_get, unwrap_or, nat_le, nat_lt, nat_eq, bytes_eq, All, AllPairs}
+use Rattle.std.specs.Prelude.{◌≡◌, ℕ, ◌+◌, ◌<◌, ◌≤◌, ◌⊎◌, Bool, ◌&&◌, Option, Some, None, List, [], ◌∷◌, unwrap_or, nat_le, nat_lt, nat_eq, bytes_eq, AllPairs}
 use Rattle.std.specs.BTreeMap.{BTreeMap, get_by}
 use denote.Ref.{Bor}
 use Rattle.std.specs.Cmp.Lexicographic.{slice_cmp}
 use Rattle.std.specs.Ordering.{nat_cmp}
 use Rattle.std.specs.List.{position_from}
 use Rattle.std.specs.List.Sorted.{IsPermutation}
-use Rattle.std.specs.Option.{option_map, option_map_or, option_and_then}
+use Rattle.std.specs.Option.{option_map, option_and_then}
 use Rattle.luf_scope.specs.Local.{Spelling, LocalVariable, meaning}
-use Rattle.luf_scope.specs.declared.binder.Role.{Role}
 use Rattle.luf_scope.specs.declared.occurrence.Occurrence.{Occurrence}
 use Rattle.luf_scope.specs.declared.occurrence.Occurrence.TheVariants.{Reads, Assigns}
 use Rattle.luf_scope.specs.declared.scopes.Scope.{Scope}

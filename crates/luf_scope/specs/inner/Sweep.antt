@@ -1,5 +1,5 @@
 -- A sweep over the scopes of a chunk, in the order in which they begin.
-use Rattle.std.specs.Prelude.{◌≡◌, ℕ, ◌<◌, ◌≤◌, Bool, ◌&&◌, Option, Some, List, [], length, take, drop, slice_get, nat_eq, nat_lt, All, AllPairs}
+use Rattle.std.specs.Prelude.{◌≡◌, ℕ, ◌<◌, ◌≤◌, Bool, ◌&&◌, Option, Some, List, [], length, take, slice_get, nat_eq, nat_lt, All, AllPairs}
 use Rattle.std.specs.Option.{option_map, option_map_or}
 use Rattle.std.specs.Global.{Vec}
 use Rattle.luf_scope.specs.declared.scopes.Scope.{Scope}

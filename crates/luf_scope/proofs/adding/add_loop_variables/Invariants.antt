@@ -1,4 +1,4 @@
-use Rattle.std.proofs.Common.{◌≡◌, ◌++◌, map, drop}
+use Rattle.std.proofs.Common.{◌≡◌, ◌++◌, drop}
 use Rattle.luf_tree.specs.TokenSyntax.{from_to}
 use Rattle.luf_scope.specs.Occurrences.{loop_variables_of}
 use Rattle.luf_scope.proofs.adding.add_loop_variables.Given as goal

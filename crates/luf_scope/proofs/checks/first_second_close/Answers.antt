@@ -1,4 +1,4 @@
-use Rattle.std.proofs.Common.{◌≡◌, None, [], ◌∷◌, ◌++◌, take, get_or, sym, ◌∙◌, subst}
+use Rattle.std.proofs.Common.{◌≡◌, None, take, get_or, sym, ◌∙◌, subst}
 use Rattle.std.proofs.lemmas.List.{take_more}
 use Rattle.luf_scope.specs.Fault as fault
 use Rattle.luf_scope.specs.Links.{spelling_in}

@@ -1,6 +1,6 @@
-use Rattle.std.proofs.Common.{◌≡◌, ◌≤◌, Some, None, take, get_or, sym, ◌∙◌, subst}
+use Rattle.std.proofs.Common.{◌≡◌, ◌≤◌, None, take, get_or, sym, ◌∙◌, subst}
 use Rattle.luf_scope.specs.Fault as fault
-use Rattle.luf_scope.specs.Local.{Spelling, functions_of}
+use Rattle.luf_scope.specs.Local.{functions_of}
 use Rattle.luf_scope.specs.Order.{place}
 use Rattle.luf_scope.specs.declared.fault.ScopeWhat.TheVariants.{VarargOutside}
 use Rattle.luf_scope.specs.declared.occurrence.Occurrence.{Occurrence}

@@ -1,4 +1,4 @@
-use Rattle.std.proofs.Common.{◌≡◌, ◌-◌, ◌≤◌, length}
+use Rattle.std.proofs.Common.{◌-◌, length}
 use Rattle.luf_scope.specs.inner.Sweep.{IsSweep}
 use Rattle.luf_scope.proofs.meanings.Sweep.enter.Given as goal
 
