@@ -1,6 +1,6 @@
 -- Two names in functions have one number where they are the same.
-use Rattle.std.proofs.Common.{◌≡◌, ℕ, ◌+◌, ◌<◌, ◌≤◌, Bool, true, false, cond, ◌&&◌, nat_eq, nat_le, nat_lt, bytes_eq, List, [], ◌∷◌, ◌++◌, Option, Some, None, unwrap_or, length, get_or, map, zero, suc, zero-add, refl, sym, ap, ◌∙◌, subst, inl, inr, min, arith}
-use Rattle.std.proofs.lemmas.Bool.{cases_Bool, cond-true, cond-false, eq-eqb, eqb-true, false_from_ne_true, le-leb, lt-ltb, ltb-true, false≢true}
+use Rattle.std.proofs.Common.{◌≡◌, ℕ, ◌+◌, ◌<◌, ◌≤◌, Bool, true, false, ◌&&◌, nat_eq, nat_le, nat_lt, bytes_eq, List, [], ◌∷◌, ◌++◌, Option, Some, None, unwrap_or, length, get_or, map, zero, suc, zero-add, refl, sym, ap, ◌∙◌, inl, inr, min, arith}
+use Rattle.std.proofs.lemmas.Bool.{cases_Bool, cond-true, cond-false, eq-eqb, eqb-true, false_from_ne_true, le-leb, ltb-true, false≢true}
 use Rattle.std.proofs.lemmas.Bool.Decides.{nat_tests}
 use Rattle.std.proofs.lemmas.List.{get_or_default}
 use Rattle.std.specs.List.{Contains, position_from}
@@ -10,8 +10,8 @@ use Rattle.luf_goto.specs.inner.Holders.{holds, one_higher}
 use Rattle.luf_goto.specs.declared.sites.LabelRow.{LabelRow}
 use Rattle.luf_goto.specs.declared.sites.GotoRow.{GotoRow}
 use Rattle.luf_goto.specs.inner.Names.{same_name, first_place}
-use Rattle.luf_goto.specs.inner.Rows.{seen_extent, name_spot, block_extent, goto_spot, sees}
-use Rattle.luf_goto.proofs.Numbers.{same_is, same_itself, same_if}
+use Rattle.luf_goto.specs.inner.Rows.{seen_extent, name_spot, goto_spot, sees}
+use Rattle.luf_goto.proofs.Numbers.{same_is, same_if}
 
 abbrev Name : Type 0
 Name = ℕ × List ℕ
@@ -23,9 +23,9 @@ IsFirst a n names o = (i : ℕ) × (o ≡ Some (n + i)) × (i < length names) ×
 first_is : (a : Name) (n : ℕ) (names : List Name) (k : ℕ) → k < length names → ((d : Name) → get_or names k d ≡ a) → IsFirst a n names (position_from (same_name a) n names)
 first_is a n [] k inside at = absurd (omega arith)
 first_is a n (x ∷ names) k inside at = elim (cases_Bool (same_name a x)) [
-    inl is ↦ (0, cond-true (same_name a x) _ _ is ∙ ap Some (let e : n ≡ n + 0 = omega arith in e), omega arith, (λ d. sym (same_is a x is)))
+  | inl is ↦ (0, cond-true (same_name a x) _ _ is ∙ ap Some (let e : n ≡ n + 0 = omega arith in e), omega arith, (λ d. sym (same_is a x is)))
   | inr apart ↦ later (λ j h. first_is a (n + 1) names j h) k inside at apart
-  ]
+]
   where
     later : ((j : ℕ) → j < length names → ((d : Name) → get_or names j d ≡ a) → IsFirst a (n + 1) names (position_from (same_name a) (n + 1) names)) → (k : ℕ) → k < length (x ∷ names) → ((d : Name) → get_or (x ∷ names) k d ≡ a) → same_name a x ≡ false → IsFirst a n (x ∷ names) (position_from (same_name a) n (x ∷ names))
     later rest zero inside at apart = absurd (false≢true (sym apart ∙ same_if a x (sym (at a))))
@@ -44,15 +44,15 @@ placed names a (k, inside, at) =
 
 pub class_is : (names : List Name) (a b : Name) → Contains names a → Contains names b → nat_eq (first_place names a) (first_place names b) ≡ same_name a b
 class_is names a b here there = elim (cases_Bool (same_name a b)) [
-    inl is ↦ eq-eqb (first_place names a) (first_place names b) (ap (first_place names) (same_is a b is)) ∙ sym is
+  | inl is ↦ eq-eqb (first_place names a) (first_place names b) (ap (first_place names) (same_is a b is)) ∙ sym is
   | inr apart ↦
       let p = placed names a here in
       let q = placed names b there in
       false_from_ne_true _ (λ h.
-          let one : p.0 ≡ q.0 = sym p.1 ∙ eqb-true (first_place names a) (first_place names b) h ∙ q.1 in
-          false≢true (sym apart ∙ same_if a b (sym (p.2 a) ∙ ap (λ i. get_or names i a) one ∙ q.2 a)))
+      let one : p.0 ≡ q.0 = sym p.1 ∙ eqb-true (first_place names a) (first_place names b) h ∙ q.1 in
+      false≢true (sym apart ∙ same_if a b (sym (p.2 a) ∙ ap (λ i. get_or names i a) one ∙ q.2 a)))
       ∙ sym apart
-  ]
+]
 
 pub same_function : (f g : Option ℕ) → nat_eq (one_higher f) (one_higher g) ≡ option_eq nat_eq f g
 same_function None None = refl

@@ -1,10 +1,10 @@
 -- The whole answer, from what each step of the code gives.
-use Rattle.std.proofs.Common.{◌≡◌, ℕ, ◌+◌, ◌<◌, ◌≤◌, Bool, true, false, List, [], ◌∷◌, ◌++◌, Option, Some, None, IfSome, All, AllPairs, length, get_or, map, suc, refl, sym, ap, ◌∙◌, subst, arith}
+use Rattle.std.proofs.Common.{◌≡◌, ℕ, ◌+◌, ◌<◌, ◌≤◌, true, false, List, [], ◌∷◌, ◌++◌, Option, Some, None, IfSome, All, length, get_or, map, suc, sym, ap, ◌∙◌, subst, arith}
 use Rattle.std.proofs.lemmas.List.{length-map, get_or_default}
 use Rattle.std.specs.List.{filter_map, cons_option}
 use Rattle.std.specs.List.Sorted.{IsNonDecreasingBy}
-use Rattle.std.specs.Option.{option_map, option_map_or}
-use Rattle.luf_scope.specs.Local.{Spelling, is_held, functions_of, function_by, function_of, last_passing}
+use Rattle.std.specs.Option.{option_map_or}
+use Rattle.luf_scope.specs.Local.{Spelling, is_held, functions_of, function_by, function_of}
 use Rattle.luf_scope.specs.Jump.{LabelAt, GotoAt, labels_of, gotos_of}
 use Rattle.luf_scope.specs.Fault.{first_fault, jump_faults, label_twice, without_label, into_scope}
 use Rattle.luf_scope.specs.Order.{place}
@@ -22,8 +22,8 @@ use Rattle.luf_goto.specs.inner.Firsts as firsts
 use Rattle.luf_goto.specs.inner.Firsts.{first_where}
 use Rattle.luf_goto.specs.inner.Innermost.{AreInnermost}
 use Rattle.luf_goto.specs.inner.Leaps.{first_failing, has_none, enters_scope}
-use Rattle.luf_goto.specs.inner.Names.{label_name, goto_name, names_in, numbered_label, numbered_goto}
-use Rattle.luf_goto.specs.inner.Rows.{seen_extent, name_spot, scope_extent, scope_spot, row_at, goto_at, goto_spot, IsTarget, AreTargets}
+use Rattle.luf_goto.specs.inner.Names.{goto_name, names_in, numbered_label, numbered_goto}
+use Rattle.luf_goto.specs.inner.Rows.{seen_extent, name_spot, scope_extent, scope_spot, goto_at, goto_spot, IsTarget, AreTargets}
 use Rattle.luf_goto.specs.inner.Sites.{IsInOrder, home_of, label_row, goto_row, loop_extent, break_spot}
 use Rattle.luf_goto.specs.inner.Targets.{targets_in}
 use Rattle.luf_goto.proofs.Classes.{label_key, names_of, row_of, goto_row_of}
@@ -48,8 +48,8 @@ pub given :
 given spelled os sl nl sg ng ls gs ln gn =
     let N : List Name = names_of (labels_of spelled os) (gotos_of spelled os) in
     let names : names_in spelled sl sg ≡ N =
-        ap (λ x. names_in spelled x sg) ls ∙ ap (names_in spelled (filter_map (label_row os) os)) gs
-        ∙ ap (λ x. x ++ map (goto_name spelled) (filter_map (goto_row os) os)) (label_names spelled os os) ∙ ap (λ x. map label_key (labels_of spelled os) ++ x) (goto_names spelled os os) in
+    ap (λ x. names_in spelled x sg) ls ∙ ap (names_in spelled (filter_map (label_row os) os)) gs
+    ∙ ap (λ x. x ++ map (goto_name spelled) (filter_map (goto_row os) os)) (label_names spelled os os) ∙ ap (λ x. map label_key (labels_of spelled os) ++ x) (goto_names spelled os os) in
     record {
       labels_are = ln ∙ ap (λ n. map (numbered_label spelled n) sl) names ∙ ap (map (numbered_label spelled N)) ls ∙ label_rows spelled os N os;
       gotos_are = gn ∙ ap (λ n. map (numbered_goto spelled n) sg) names ∙ ap (map (numbered_goto spelled N)) gs ∙ goto_rows spelled os N os;
@@ -98,7 +98,7 @@ module _ (spelled : Spelling) (os : List Occurrence) (lies : IsInOrder os) (labe
       ∙ ap (λ x. first_bad x missing entering outside) (is_twice ∙ ap (λ ls. first_where (firsts.is_held (map seen_extent ls) true) (map name_spot ls)) rows ∙ twice_is L G (labels_stand spelled os lies))
       ∙ ap (λ x. first_bad t x entering outside) (is_missing ∙ ap (λ gs. first_failing has_none gs found) go ∙ ap (first_failing has_none (map (goto_row_of N) G)) targets ∙ missing_is L G N)
       ∙ ap (λ x. first_bad t m x outside) (is_entering ∙ ap (λ ls. first_failing (enters_scope ls scopes) gotos found) rows ∙ ap (λ gs. first_failing (enters_scope (map (row_of N) L) scopes) gs found) go
-          ∙ ap (first_failing (enters_scope (map (row_of N) L) scopes) (map (goto_row_of N) G)) targets ∙ entering_is spelled os lies L N scopes inner' G)
+      ∙ ap (first_failing (enters_scope (map (row_of N) L) scopes) (map (goto_row_of N) G)) targets ∙ entering_is spelled os lies L N scopes inner' G)
       ∙ ap (λ x. first_bad t m e x) (is_outside ∙ ap (λ ls. first_where (firsts.is_held ls false) breaks) loop ∙ ap (first_where (firsts.is_held (filter_map (loop_extent os) os) false)) break ∙ outside_is spelled os os)
       ∙ told_first spelled os lies
 

@@ -1,27 +1,24 @@
 -- The labels and gotos of a chunk, as the code has them, are those of the definitions.
-use Rattle.std.proofs.Common.{◌≡◌, ℕ, ◌+◌, ◌^◌, ◌<◌, ◌≤◌, ◌⊎◌, Bool, true, false, cond, ◌&&◌, List, [], ◌∷◌, ◌++◌, Option, Some, None, All, AllPairs, length, get_or, map, zero, suc, refl, sym, ap, ◌∙◌, subst, inl, inr, ⊎_elim, arith}
+use Rattle.std.proofs.Common.{◌≡◌, ℕ, ◌+◌, ◌<◌, ◌≤◌, ◌⊎◌, true, false, List, [], ◌∷◌, Option, Some, None, All, AllPairs, length, get_or, map, refl, sym, ap, ◌∙◌, subst, inl, inr, arith}
 use Rattle.std.proofs.lemmas.Bool.{false≢true}
 use Rattle.std.proofs.lemmas.List.{length-map, length-append, get_or-map, get_or_default, same_lists}
 use Rattle.std.proofs.lemmas.List.Elements.{Contains-append_left, Contains-append_right, All-map}
-use Rattle.std.specs.List.{Contains, filter_map, list_any}
-use Rattle.std.specs.List.Sorted.{IsNonDecreasingBy}
+use Rattle.std.specs.List.{Contains, filter_map}
 use Rattle.std.specs.Option.{option_map, option_map_or}
 use Rattle.luf_scope.specs.Local.{Spelling, functions_of}
-use Rattle.luf_scope.specs.Jump.{LabelAt, GotoAt, label_by, goto_by, labels_of, gotos_of, is_seen, innermost, target}
+use Rattle.luf_scope.specs.Jump.{LabelAt, GotoAt, label_by, goto_by, labels_of, gotos_of, is_seen, target}
 use Rattle.luf_scope.specs.Order.{place, behind, is_loop, is_label, block_from, Within}
 use Rattle.luf_scope.specs.declared.occurrence.Occurrence.{Occurrence}
-use Rattle.luf_scope.specs.declared.occurrence.Occurrence.TheVariants.{Function, Loop, Label, Goto, Break}
+use Rattle.luf_scope.specs.declared.occurrence.Occurrence.TheVariants.{Label, Goto}
 use Rattle.luf_scope.proofs.Ordered.{all_given, pairs_given}
-use Rattle.luf_goto.specs.declared.holders.Spot.{Spot}
 use Rattle.luf_goto.specs.declared.sites.LabelRow.{LabelRow}
 use Rattle.luf_goto.specs.declared.sites.GotoRow.{GotoRow}
-use Rattle.luf_goto.specs.inner.Names.{label_name, goto_name, names_in, numbered_label, numbered_goto}
+use Rattle.luf_goto.specs.inner.Names.{label_name, goto_name, numbered_label, numbered_goto}
 use Rattle.luf_goto.specs.inner.Rows.{goto_spot, row_at, goto_at, sees, IsTarget, AreTargets}
 use Rattle.luf_goto.specs.inner.Sites.{IsInOrder, label_row, goto_row}
 use Rattle.luf_goto.proofs.Agree.{mapped_there}
 use Rattle.luf_goto.proofs.Chosen.{Choice, IsChosen, innermost_chosen}
 use Rattle.luf_goto.proofs.Classes.{label_key, goto_key, names_of, row_of, goto_row_of, placed, seen_is}
-use Rattle.luf_goto.proofs.Lists.{rising_map}
 use Rattle.luf_goto.proofs.Places.{places_rise}
 
 abbrev Name : Type 0
@@ -80,8 +77,8 @@ module _ (spelled : Spelling) (os : List Occurrence) (lies : IsInOrder os) where
   pub labels_stand : All Stands (labels_of spelled os)
   labels_stand = all_given (Within 0 lies.tokens lies.tokens) Stands (label_by spelled (functions_of os))
       (λ o l w is.
-          let p = label_parts spelled os o l is in let b = (w.own.block p.2).begun in let h = w.high in let t = lies.few in
-          record { begun = omega (arith, b, p.0, p.1); few = omega (arith, h, p.4, t) })
+      let p = label_parts spelled os o l is in let b = (w.own.block p.2).begun in let h = w.high in let t = lies.few in
+      record { begun = omega (arith, b, p.0, p.1); few = omega (arith, h, p.4, t) })
       os lies.order.within
 
   pub labels_rise : AllPairs (λ u v. u.token ≤ v.token) (labels_of spelled os)
@@ -165,9 +162,9 @@ module _ (L : List LabelAt) (G : List GotoAt) where
       let rows : length (map (goto_row_of (names_of L G)) G) ≡ length G = length-map G (goto_row_of (names_of L G)) in
       same_lists found targets_in (are.same ∙ rows ∙ sym (length-map G (λ g. option_map (λ (t : ℕ × LabelAt). t.0) (target L g))))
       (λ k d h.
-          let inside : k < length G = omega (arith, are.same, rows) in
-          get_or_default found k d None h
-          ∙ one_target k no_goto inside (get_or found k None) (target L (get_or G k no_goto))
-            (subst (λ r. IsTarget (map (row_of (names_of L G)) L) (goto_spot r) (get_or found k None)) (goto_row_at k no_goto inside) (are.each k (omega (arith, rows))))
-            (innermost_chosen (is_seen (get_or G k no_goto).function (get_or G k no_goto).token (get_or G k no_goto).name) 0 L)
-          ∙ sym (get_or-map (λ g. option_map (λ (t : ℕ × LabelAt). t.0) (target L g)) G k no_goto d inside))
+      let inside : k < length G = omega (arith, are.same, rows) in
+      get_or_default found k d None h
+      ∙ one_target k no_goto inside (get_or found k None) (target L (get_or G k no_goto))
+      (subst (λ r. IsTarget (map (row_of (names_of L G)) L) (goto_spot r) (get_or found k None)) (goto_row_at k no_goto inside) (are.each k (omega (arith, rows))))
+      (innermost_chosen (is_seen (get_or G k no_goto).function (get_or G k no_goto).token (get_or G k no_goto).name) 0 L)
+      ∙ sym (get_or-map (λ g. option_map (λ (t : ℕ × LabelAt). t.0) (target L g)) G k no_goto d inside))

@@ -1,12 +1,12 @@
 -- The role of each token, read off the roles of the names of labels.
-use Rattle.std.proofs.Common.{◌≡◌, ◌≢◌, ℕ, ◌+◌, ◌<◌, ◌≤◌, Bool, true, false, cond, nat_eq, List, [], ◌∷◌, ◌++◌, Option, Some, None, All, AllPairs, length, get_or, map, zero, suc, add-zero, zero-add, refl, sym, ap, ◌∙◌, subst, inl, inr, arith}
+use Rattle.std.proofs.Common.{◌≡◌, ◌≢◌, ℕ, ◌+◌, ◌<◌, ◌≤◌, false, cond, nat_eq, List, [], ◌∷◌, ◌++◌, Option, Some, None, All, AllPairs, length, get_or, suc, add-zero, zero-add, refl, sym, ap, ◌∙◌, inl, inr, arith}
 use Rattle.std.proofs.lemmas.Bool.{cases_Bool, cond-true, cond-false, eqb-true, ne_eqb}
 use Rattle.std.proofs.lemmas.List.{get_or-map}
 use Rattle.std.proofs.lemmas.List.Elements.{All-nil, All-cons, All-head, All-tail, All-append, All-weaker}
 use Rattle.std.specs.List.{filter_map, position_from}
 use Rattle.std.specs.Option.{option_map, option_map_or, option_to_list}
 use Rattle.luf_scope.specs.Local.{Spelling, functions_of}
-use Rattle.luf_scope.specs.Jump.{LabelAt, GotoAt, label_by, goto_by, labels_of, gotos_of, target, jump_to, goto_role, label_role, jump_role_of}
+use Rattle.luf_scope.specs.Jump.{LabelAt, GotoAt, label_by, goto_by, labels_of, gotos_of, target, jump_to, goto_role, label_role}
 use Rattle.luf_scope.specs.Marks.{mark_at}
 use Rattle.luf_scope.specs.Order.{place, behind, is_loop}
 use Rattle.luf_scope.specs.declared.jump.JumpRole.{JumpRole}
@@ -55,20 +55,20 @@ position_none token n (l ∷ labels) apart =
 at_goto : (name token : ℕ) (c : Choice) (rest : List Mark) (P : Option ℕ) (Q : Option JumpRole) → mark_at rest token ≡ label_role P Q → (name ≡ token → (P ≡ None) × (mark_at rest token ≡ None))
     → mark_at (option_to_list (going_to name (option_map (λ (t : ℕ × LabelAt). t.0) c)) ++ rest) token ≡ label_role P (cond (nat_eq name token) (jump_to c) Q)
 at_goto name token None rest P Q later apart = elim (cases_Bool (nat_eq name token)) [
-    inl is ↦ let e = apart (eqb-true name token is) in e.1 ∙ sym (ap (λ p. label_role p (cond (nat_eq name token) None Q)) e.0 ∙ cond-true (nat_eq name token) None Q is)
+  | inl is ↦ let e = apart (eqb-true name token is) in e.1 ∙ sym (ap (λ p. label_role p (cond (nat_eq name token) None Q)) e.0 ∙ cond-true (nat_eq name token) None Q is)
   | inr no_way ↦ later ∙ sym (ap (label_role P) (cond-false (nat_eq name token) None Q no_way))
-  ]
+]
 at_goto name token (Some t) rest P Q later apart = elim (cases_Bool (nat_eq name token)) [
-    inl is ↦ let e = apart (eqb-true name token is) in
-        cond-true (nat_eq name token) (Some (jump.Goto t.0)) (mark_at rest token) is ∙ sym (ap (λ p. label_role p (cond (nat_eq name token) (Some (jump.Goto t.0)) Q)) e.0 ∙ cond-true (nat_eq name token) (Some (jump.Goto t.0)) Q is)
+  | inl is ↦ let e = apart (eqb-true name token is) in
+      cond-true (nat_eq name token) (Some (jump.Goto t.0)) (mark_at rest token) is ∙ sym (ap (λ p. label_role p (cond (nat_eq name token) (Some (jump.Goto t.0)) Q)) e.0 ∙ cond-true (nat_eq name token) (Some (jump.Goto t.0)) Q is)
   | inr no_way ↦ cond-false (nat_eq name token) (Some (jump.Goto t.0)) (mark_at rest token) no_way ∙ later ∙ sym (ap (label_role P) (cond-false (nat_eq name token) (Some (jump.Goto t.0)) Q no_way))
-  ]
+]
 
 at_label : (name token n : ℕ) (rest : List Mark) (P : Option ℕ) (Q : Option JumpRole) → mark_at rest token ≡ label_role P Q → mark_at ((name, jump.Label n) ∷ rest) token ≡ label_role (cond (nat_eq name token) (Some n) P) Q
 at_label name token n rest P Q later = elim (cases_Bool (nat_eq name token)) [
-    inl is ↦ cond-true (nat_eq name token) (Some (jump.Label n)) (mark_at rest token) is ∙ sym (ap (λ p. label_role p Q) (cond-true (nat_eq name token) (Some n) P is))
+  | inl is ↦ cond-true (nat_eq name token) (Some (jump.Label n)) (mark_at rest token) is ∙ sym (ap (λ p. label_role p Q) (cond-true (nat_eq name token) (Some n) P is))
   | inr no_way ↦ cond-false (nat_eq name token) (Some (jump.Label n)) (mark_at rest token) no_way ∙ later ∙ sym (ap (λ p. label_role p Q) (cond-false (nat_eq name token) (Some n) P no_way))
-  ]
+]
 
 label_token : (spelled : Spelling) (all : List Occurrence) (o : Occurrence) (l : LabelAt) → label_by spelled (functions_of all) o ≡ Some l → l.token ≡ place o
 label_token spelled all (Label name from to at_end) l is = sym (ap (λ x. option_map_or (λ (y : LabelAt). y.token) x 0) is)
@@ -95,8 +95,8 @@ module _ (spelled : Spelling) (all : List Occurrence) (L : List LabelAt) (ts : L
       let first : get_or ts a None ≡ option_map (λ (t : ℕ × LabelAt). t.0) (target L g) = ap (λ k. get_or ts k None) (sym (add-zero a)) ∙ going 0 (omega arith) in
       ap (λ o. mark_at (option_to_list (going_to name o) ++ marks_from ts n (a + 1) os) token) first
       ∙ at_goto name token (target L g) (marks_from ts n (a + 1) os) _ _
-        (role_is n (a + 1) os (pairs_tail (λ u v. behind u ≤ place v) (Goto start name) os pairs) stands (λ i h. ap (λ k. get_or ts k None) (let e : a + 1 + i ≡ a + suc i = omega arith in e) ∙ going (suc i) (omega arith)))
-        (λ e. (position_none token n _ (later_labels (name + 1) os (omega arith) above), later_marks n (a + 1) (name + 1) os (omega arith) above stands))
+      (role_is n (a + 1) os (pairs_tail (λ u v. behind u ≤ place v) (Goto start name) os pairs) stands (λ i h. ap (λ k. get_or ts k None) (let e : a + 1 + i ≡ a + suc i = omega arith in e) ∙ going (suc i) (omega arith)))
+      (λ e. (position_none token n _ (later_labels (name + 1) os (omega arith) above), later_marks n (a + 1) (name + 1) os (omega arith) above stands))
   role_is n a (_ ∷ os) pairs stand going = role_is n a os (pairs_tail (λ u v. behind u ≤ place v) _ os pairs) (All-tail IsMarkable _ os stand) going
 
 pub roles_are : (spelled : Spelling) (os : List Occurrence) → IsInOrder os → AreJumps spelled os (marks_from (targets_in (labels_of spelled os) (gotos_of spelled os)) 0 0 os)

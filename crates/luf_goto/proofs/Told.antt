@@ -1,9 +1,9 @@
 -- The first fault of lists of faults, one word after another.
-use Rattle.std.proofs.Common.{◌≡◌, ℕ, ◌+◌, ◌<◌, ◌≤◌, Bool, true, false, cond, ◌&&◌, ◌||◌, nat_lt, nat_eq, List, [], ◌∷◌, ◌++◌, Option, Some, None, IfSome, All, AllPairs, length, get_or, map, refl, sym, ap, ◌∙◌, subst, inl, inr, lit<, lit≤, arith}
+use Rattle.std.proofs.Common.{◌≡◌, ℕ, ◌<◌, ◌≤◌, Bool, true, false, cond, ◌&&◌, ◌||◌, nat_lt, nat_eq, List, [], ◌∷◌, ◌++◌, Option, Some, None, IfSome, All, AllPairs, map, refl, sym, ap, ◌∙◌, inl, inr, lit<, lit≤, arith}
 use Rattle.std.proofs.lemmas.Bool.{cases_lt, cond-true, cond-false, lt-ltb, le-ltb, cond_both}
 use Rattle.std.proofs.lemmas.List.Elements.{All-head, All-tail, All-append, All-map}
 use Rattle.luf_scope.proofs.Lying.{pairs_head, pairs_tail}
-use Rattle.luf_scope.specs.Fault.{earlier, first_fault, first_of, rank, is_told_before}
+use Rattle.luf_scope.specs.Fault.{earlier, first_fault, first_of, rank}
 use Rattle.luf_scope.specs.declared.fault.ScopeBad.{ScopeBad}
 use Rattle.luf_scope.specs.declared.fault.ScopeWhat.{ScopeWhat}
 use Rattle.luf_scope.specs.declared.fault.ScopeWhat.TheVariants.{LabelTwice, NoLabel, JumpIntoScope, BreakOutside}
@@ -35,15 +35,15 @@ pick_other b a more = cond-false (nat_lt b.token a.token) b a (le-ltb b.token a.
 
 pick_in_turn : (a b c : ScopeBad) → pick (pick b c) a ≡ pick b (pick c a)
 pick_in_turn a b c = elim (cases_lt c.token a.token) [
-    inl ca ↦ elim (cases_lt b.token c.token) [
-        inl bc ↦ ap (λ x. pick x a) (pick_first b c bc) ∙ pick_first b a (omega arith) ∙ sym (ap (pick b) (pick_first c a ca) ∙ pick_first b c bc)
-      | inr cb ↦ ap (λ x. pick x a) (pick_other b c cb) ∙ pick_first c a ca ∙ sym (ap (pick b) (pick_first c a ca) ∙ pick_other b c cb)
-      ]
-  | inr ac ↦ elim (cases_lt b.token c.token) [
-        inl bc ↦ ap (λ x. pick x a) (pick_first b c bc) ∙ sym (ap (pick b) (pick_other c a ac))
-      | inr cb ↦ ap (λ x. pick x a) (pick_other b c cb) ∙ pick_other c a ac ∙ sym (ap (pick b) (pick_other c a ac) ∙ pick_other b a (omega arith))
-      ]
+  | inl ca ↦ elim (cases_lt b.token c.token) [
+    | inl bc ↦ ap (λ x. pick x a) (pick_first b c bc) ∙ pick_first b a (omega arith) ∙ sym (ap (pick b) (pick_first c a ca) ∙ pick_first b c bc)
+    | inr cb ↦ ap (λ x. pick x a) (pick_other b c cb) ∙ pick_first c a ca ∙ sym (ap (pick b) (pick_first c a ca) ∙ pick_other b c cb)
   ]
+  | inr ac ↦ elim (cases_lt b.token c.token) [
+    | inl bc ↦ ap (λ x. pick x a) (pick_first b c bc) ∙ sym (ap (pick b) (pick_other c a ac))
+    | inr cb ↦ ap (λ x. pick x a) (pick_other b c cb) ∙ pick_other c a ac ∙ sym (ap (pick b) (pick_other c a ac) ∙ pick_other b a (omega arith))
+  ]
+]
 
 only_earlier : (x y z : Bool) → z ≡ false → (x || (y && z)) ≡ x
 only_earlier true y z is = refl
@@ -101,8 +101,8 @@ first_bad_is a b c d ra rb rc rd =
     let lowABC : All (λ x. rank x.what < 7) (A ++ B ++ C) = All-append (λ x. rank x.what < 7) (A ++ B) C (All-append (λ x. rank x.what < 7) A B (bads_are LabelTwice (λ w. rank w < 7) (lit< tt) a) (bads_are NoLabel (λ w. rank w < 7) (lit< tt) b)) (bads_are JumpIntoScope (λ w. rank w < 7) (lit< tt) c) in
     first_append 7 (A ++ B ++ C) D lowABC (bads_are BreakOutside (λ w. 7 ≤ rank w) (lit≤ tt) d)
     ∙ ap (λ o. first_of o (first_fault D))
-      (first_append 6 (A ++ B) C lowAB (bads_are JumpIntoScope (λ w. 6 ≤ rank w) (lit≤ tt) c)
-      ∙ ap (λ o. first_of o (first_fault C)) (first_append 5 A B lowA (bads_are NoLabel (λ w. 5 ≤ rank w) (lit≤ tt) b)))
+    (first_append 6 (A ++ B) C lowAB (bads_are JumpIntoScope (λ w. 6 ≤ rank w) (lit≤ tt) c)
+    ∙ ap (λ o. first_of o (first_fault C)) (first_append 5 A B lowA (bads_are NoLabel (λ w. 5 ≤ rank w) (lit≤ tt) b)))
     ∙ ap (λ o. first_of (first_of (first_of o (first_fault B)) (first_fault C)) (first_fault D)) (rising_first LabelTwice a ra)
     ∙ ap (λ o. first_of (first_of (first_of (bad_at (first_token a) LabelTwice) o) (first_fault C)) (first_fault D)) (rising_first NoLabel b rb)
     ∙ ap (λ o. first_of (first_of (first_of (bad_at (first_token a) LabelTwice) (bad_at (first_token b) NoLabel)) o) (first_fault D)) (rising_first JumpIntoScope c rc)

@@ -38,12 +38,7 @@ pub fn labels(alloc: Global, src: &[u8], cut: &Cut, c: &Chunk) -> Result<Jumps, 
     jumps_of(alloc, src, cut, os.as_slice())
 }
 
-fn jumps_of(
-    alloc: Global,
-    src: &[u8],
-    cut: &Cut,
-    os: &[Occurrence],
-) -> Result<Jumps, ScopeErr>
+fn jumps_of(alloc: Global, src: &[u8], cut: &Cut, os: &[Occurrence]) -> Result<Jumps, ScopeErr>
     requires cut { IsCut src.now cut.now }
     requires order { IsInOrder os.now }
     ensures ok { IfOk result (λ j. AreJumps (spelling_in src.now cut.now) os.now j) }

@@ -1,4 +1,4 @@
-use Rattle.std.proofs.Common.{◌≡◌, ◌∙◌, ◌+◌, ◌<◌, ℕ, Option, List, All, IfSome, length, sym, ap, subst}
+use Rattle.std.proofs.Common.{◌∙◌, ◌+◌, ◌<◌, ℕ, Option, List, All, IfSome, length, sym, ap, subst}
 use Rattle.std.specs.List.Sorted.{IsNonDecreasingBy}
 use Rattle.luf_scope.specs.Links.{spelling_in}
 use Rattle.luf_goto.specs.declared.holders.Extent.{Extent}

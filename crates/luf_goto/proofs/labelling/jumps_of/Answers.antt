@@ -1,4 +1,4 @@
-use Rattle.std.proofs.Common.{◌≡◌, ◌∙◌, sym, ap, subst}
+use Rattle.std.proofs.Common.{◌∙◌, sym, ap, subst}
 use Rattle.luf_scope.specs.Links.{spelling_in}
 use Rattle.luf_goto.specs.Jumps.{AreJumps}
 use Rattle.luf_goto.specs.inner.Marking.{marks_from}

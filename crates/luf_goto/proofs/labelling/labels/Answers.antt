@@ -1,4 +1,4 @@
-use Rattle.std.proofs.Common.{◌≡◌, ◌<◌, ◌^◌, Some, None, IfOk, IfErr, length, sym, ◌∙◌, subst, arith}
+use Rattle.std.proofs.Common.{◌≡◌, Some, None, IfOk, IfErr, length, sym, ◌∙◌, subst, arith}
 use Rattle.luf_lex.specs.Tokens.{toks_of}
 use Rattle.luf_scope.specs.Fault.{first_fault, jump_faults}
 use Rattle.luf_scope.specs.Links.{spelling_in, occurrences_of, IfBad}
