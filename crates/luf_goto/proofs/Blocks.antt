@@ -1,7 +1,7 @@
 -- The extents of labels and of local variables, and the target that the innermost block gives.
-use Rattle.std.proofs.Common.{◌≡◌, ℕ, ◌+◌, ◌-◌, ◌*◌, ◌^◌, ◌<◌, ◌≤◌, ◌⊎◌, Bool, true, false, List, [], ◌∷◌, Option, Some, None, All, length, get_or, map, zero, suc, add-zero, refl, sym, ap, ◌∙◌, subst, inl, inr, ⊎_elim, arith}
+use Rattle.std.proofs.Common.{◌≡◌, ℕ, ◌+◌, ◌-◌, ◌*◌, ◌^◌, ◌<◌, ◌≤◌, ◌⊎◌, List, [], ◌∷◌, Option, Some, None, All, length, get_or, map, zero, suc, add-zero, refl, sym, ap, ◌∙◌, subst, inl, inr, arith}
 use Rattle.std.proofs.lemmas.Bool.{cases_order}
-use Rattle.std.proofs.lemmas.List.{get_or-map, length-map, get_or_default}
+use Rattle.std.proofs.lemmas.List.{get_or-map, length-map}
 use Rattle.std.specs.List.{filter_map}
 use Rattle.std.specs.Option.{option_map_or}
 use Rattle.luf_scope.proofs.Ordered.{all_given}
@@ -39,6 +39,7 @@ scope_parts o e is = let p = parts o e is in (omega arith, omega arith)
   where
     fields : (from to : ℕ) (e : Extent) → Some (record { class = 0; from = from; to = to; rank = 4294967295 - to }) ≡ Some e → (e.class ≡ 0) × (e.rank ≡ 4294967295 - to)
     fields from to e is = (sym (ap (λ x. option_map_or (λ y. y.class) x 0) is), sym (ap (λ x. option_map_or (λ y. y.rank) x 0) is))
+
     parts : (o : Occurrence) (e : Extent) → scope_extent o ≡ Some e → (e.class ≡ 0) × ((t : ℕ) × (e.rank ≡ 4294967295 - t))
     parts (Local name attribute from to) e is = let f = fields from to e is in (f.0, (to, f.1))
     parts (LocalFunction name from to) e is = let f = fields from to e is in (f.0, (to, f.1))
@@ -61,10 +62,10 @@ module _ (labels : List LabelRow) (few : length labels < 2 ^ 32) (s : Spot) wher
 
   later_or_first : (i j a b : ℕ) → i < 2 ^ 32 → j < 2 ^ 32 → a * 4294967296 + (4294967295 - (0 + i)) ≤ b * 4294967296 + (4294967295 - (0 + j)) → (a < b) ⊎ ((a ≡ b) × (j ≤ i))
   later_or_first i j a b low high up = elim (cases_order a b) [
-      inl e ↦ inr (e, omega arith)
+    | inl e ↦ inr (e, omega arith)
     | inr (inl less) ↦ inl less
     | inr (inr more) ↦ absurd (omega arith)
-    ]
+  ]
 
   pub target_is : (o : Option Extent) → IsInnermost (block_extents 0 labels) s o → IsTarget labels s (target_of o)
   target_is None none = λ i h. sym (seen_as i h) ∙ none i (omega (arith, length_blocks 0 labels))
@@ -72,13 +73,12 @@ module _ (labels : List LabelRow) (few : length labels < 2 ^ 32) (s : Spot) wher
       let inside : j < length labels = omega (arith, length_blocks 0 labels) in
       let is : e ≡ block_extent (0 + j) (row_at labels j) = sym at ∙ block_at 0 labels j e inside in
       let number : 4294967295 - e.rank ≡ j = ap (λ x. 4294967295 - x.rank) is ∙ (let q : 4294967295 - (4294967295 - (0 + j)) ≡ j = omega arith in q) in
-      subst (λ n. IsTarget labels s (Some n)) (sym number)
-      (
+      subst (λ n. IsTarget labels s (Some n)) (sym number) (
         inside,
         sym (ap (holds s) is) ∙ holding,
         (λ i h seen. later_or_first i j (row_at labels i).from (row_at labels j).from (omega arith) (omega arith)
             (subst (λ x. key_of x ≤ key_of (block_extent (0 + j) (row_at labels j))) (block_at 0 labels i nowhere h)
-            (subst (λ x. key_of (extent_at (block_extents 0 labels) i) ≤ key_of x) is (most i (omega (arith, length_blocks 0 labels)) (seen_as i h ∙ seen)))))
+            (subst (λ x. key_of (extent_at (block_extents 0 labels) i) ≤ key_of x) is (most i (omega (arith, length_blocks 0 labels)) (seen_as i h ∙ seen))))),
       )
 
 pub targets_are :
@@ -91,7 +91,7 @@ targets_are labels gotos blocks spots found numbers few block spot inner number 
       let within : k < length spots = omega (arith, ap length spot, length-map gotos goto_spot) in
       let at : spot_at spots k ≡ goto_spot (goto_at gotos k) = ap (λ xs. spot_at xs k) spot ∙ get_or-map goto_spot gotos k _ _ h in
       let one : IsInnermost (block_extents 0 labels) (goto_spot (goto_at gotos k)) (get_or found k None) =
-          subst (λ x. IsInnermost (block_extents 0 labels) x (get_or found k None)) at (subst (λ es. IsInnermost es (spot_at spots k) (get_or found k None)) block (inner.each k within)) in
+      subst (λ x. IsInnermost (block_extents 0 labels) x (get_or found k None)) at (subst (λ es. IsInnermost es (spot_at spots k) (get_or found k None)) block (inner.each k within)) in
       subst (IsTarget labels (goto_spot (goto_at gotos k))) (sym (ap (λ xs. get_or xs k None) number ∙ get_or-map target_of found k None None (omega (arith, inner.same))))
       (target_is labels few (goto_spot (goto_at gotos k)) (get_or found k None) one);
 }

@@ -1,11 +1,11 @@
 -- The innermost of the extents that hold a spot is the last of them, when they are sorted.
-use Rattle.std.proofs.Common.{◌≡◌, ℕ, ◌+◌, ◌-◌, ◌*◌, ◌^◌, ◌<◌, ◌≤◌, Bool, true, false, cond, nat_eq, List, [], ◌∷◌, Option, Some, None, All, length, get_or, map, zero, suc, add-zero, refl, sym, ap, ◌∙◌, subst, inl, inr, arith}
+use Rattle.std.proofs.Common.{◌≡◌, ℕ, ◌+◌, ◌-◌, ◌^◌, ◌<◌, ◌≤◌, Bool, true, false, cond, nat_eq, List, [], ◌∷◌, Option, Some, None, All, length, get_or, map, zero, suc, add-zero, refl, sym, ap, ◌∙◌, subst, inl, inr, arith}
 use Rattle.std.proofs.lemmas.Bool.{cases_lt, false≢true, cond-false, ne_eqb}
 use Rattle.std.proofs.lemmas.List.{get_or-map, length-map, get_or_default}
-use Rattle.std.proofs.lemmas.List.Elements.{All-contains, Contains-get_or}
+use Rattle.std.proofs.lemmas.List.Elements.{Contains-get_or}
 use Rattle.std.proofs.lemmas.List.Sorted.{IsPermutation-sym, All-permutation, Contains-permutation}
 use Rattle.std.proofs.lemmas.Option.{slice_get-get_or}
-use Rattle.std.specs.List.{Contains, slice_get}
+use Rattle.std.specs.List.{slice_get}
 use Rattle.std.specs.List.Sorted.{IsNonDecreasingBy, IsPermutation}
 use Rattle.std.specs.Option.{option_or}
 use Rattle.luf_scope.specs.Local.{last_passing}
@@ -50,15 +50,14 @@ module _ (extents sorted : List Extent) (moved : IsPermutation extents sorted) (
   inner_is (Some m) (u, is, inside, passes, rest) =
       let e : Extent = extent_at sorted u in
       let same : m ≡ u = omega arith in
-      subst (IsInnermost extents s) (sym (ap (λ n. extent_numbered sorted (n + 1)) same ∙ numbered_at sorted u inside))
-      (
+      subst (IsInnermost extents s) (sym (ap (λ n. extent_numbered sorted (n + 1)) same ∙ numbered_at sorted u inside)) (
         Contains-permutation sorted extents e (IsPermutation-sym extents sorted moved) (Contains-get_or sorted u nowhere inside),
         passes nowhere,
         (λ i h. All-permutation (λ x. holds s x ≡ true → key_of x ≤ key_of e) sorted extents (IsPermutation-sym extents sorted moved)
             (λ k d below holding. elim (cases_lt u k) [
-              inl past ↦ absurd (false≢true (sym (rest k d past below) ∙ holding))
-            | inr upto ↦ subst (λ x. key_of (get_or sorted k d) ≤ key_of x) (get_or_default sorted u d nowhere inside) (up k u d upto inside)
-            ]) i nowhere h)
+              | inl past ↦ absurd (false≢true (sym (rest k d past below) ∙ holding))
+              | inr upto ↦ subst (λ x. key_of (get_or sorted k d) ≤ key_of x) (get_or_default sorted u d nowhere inside) (up k u d upto inside)
+            ]) i nowhere h),
       )
 
   pub innermost_at : IsInnermost extents s (extent_numbered sorted (one_higher (last_holding sorted s)))

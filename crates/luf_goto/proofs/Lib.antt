@@ -7,3 +7,11 @@ pub mod Marks
 pub mod Numbers
 pub mod Places
 pub mod Trails
+pub mod Told
+pub mod Chosen
+pub mod Classes
+pub mod Agree
+pub mod Lifted
+pub mod Wrong
+pub mod Roles
+pub mod Final

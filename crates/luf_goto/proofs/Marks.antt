@@ -1,11 +1,10 @@
 -- The roles of the names of labels, one occurrence after another.
-use Rattle.std.proofs.Common.{◌≡◌, ℕ, ◌+◌, ◌<◌, ◌≤◌, Bool, true, false, cond, List, [], ◌∷◌, ◌++◌, Option, Some, None, All, length, get_or, drop, refl, sym, ap, ◌∙◌, subst, inl, inr, arith}
+use Rattle.std.proofs.Common.{◌≡◌, ℕ, ◌+◌, ◌<◌, ◌≤◌, List, [], ◌++◌, Option, Some, None, All, length, get_or, drop, refl, sym, ap, ◌∙◌, subst, arith}
 use Rattle.std.proofs.lemmas.List.{append_assoc, at_drop_more}
-use Rattle.std.proofs.lemmas.List.Elements.{All-nil, All-cons, All-append, All-weaker}
+use Rattle.std.proofs.lemmas.List.Elements.{All-nil, All-cons, All-append}
 use Rattle.std.specs.Option.{option_to_list, option_map_or}
 use Rattle.luf_scope.specs.Order.{place, behind}
 use Rattle.luf_scope.specs.declared.jump.JumpRole.{JumpRole}
-use Rattle.luf_scope.specs.declared.jump.JumpRole.TheVariants as jump
 use Rattle.luf_scope.specs.declared.occurrence.Occurrence.{Occurrence}
 use Rattle.luf_scope.specs.declared.occurrence.Occurrence.TheVariants.{Local, Label, Goto}
 use Rattle.luf_goto.specs.inner.Marking.{occurrence_at, going_to, mark_of, label_after, goto_after, marks_from}
@@ -46,5 +45,5 @@ module _ (targets : List (Option ℕ)) (os : List Occurrence) (i : ℕ) (inside 
   marks_behind lies before k over within =
       subst (All (λ m. m.0 < place (occurrence_at os k))) (sym added)
       (All-append (λ m. m.0 < place (occurrence_at os k)) old (option_to_list (mark_of targets labels gotos (occurrence_at os i))) (before k (omega arith) within)
-        (all_of_one (λ m. m.0 < place (occurrence_at os k)) (mark_of targets labels gotos (occurrence_at os i))
-          (λ m is. let last = mark_last targets labels gotos (occurrence_at os i) m is in let later = (lies.order.pairs i k (Local 0 None 0 0) (omega arith) within).later in omega arith)))
+      (all_of_one (λ m. m.0 < place (occurrence_at os k)) (mark_of targets labels gotos (occurrence_at os i))
+      (λ m is. let last = mark_last targets labels gotos (occurrence_at os i) m is in let later = (lies.order.pairs i k (Local 0 None 0 0) (omega arith) within).later in omega arith)))

@@ -1,5 +1,5 @@
 -- How names are numbered one after another: each has the place of the first one that is the same.
-use Rattle.std.proofs.Common.{◌≡◌, ℕ, ◌+◌, ◌<◌, ◌≤◌, Bool, true, false, cond, ◌&&◌, List, [], ◌∷◌, ◌++◌, Option, Some, None, Ordering, Less, Equal, Greater, length, get_or, take, drop, map, zero, suc, eqb, inl, inr, unwrap_or, bytes_eq, refl, sym, ap, ◌∙◌, subst, arith, add-zero, zero-add}
+use Rattle.std.proofs.Common.{◌≡◌, ℕ, ◌+◌, ◌<◌, ◌≤◌, Bool, true, cond, ◌&&◌, List, [], ◌∷◌, ◌++◌, Option, Some, None, Ordering, Less, Equal, Greater, length, get_or, take, drop, map, suc, eqb, inl, inr, unwrap_or, bytes_eq, refl, sym, ap, ◌∙◌, subst, arith, add-zero, zero-add}
 use Rattle.std.proofs.lemmas.Bool.{and_parts, and_from, eqb-true, eq-eqb, cases_Bool, cond-true, cond-false}
 use Rattle.std.proofs.lemmas.Bool.Decides.{same_from_decides, nat_tests}
 use Rattle.std.proofs.lemmas.List.{map-append, map_push, take-append-drop, drop_more, map_more, length-map, length-take-le, length-append, length_push, append_assoc, append-nil, get_or_at}
@@ -63,8 +63,8 @@ pub kept_is : (name other : Name) (old new : Option ℕ) (next : ℕ) → new �
 kept_is name other old new next is none =
     is ∙ ap (λ t. cond t (Some next) old) (test_is name other)
     ∙ elim (cases_Bool (same_name other name)) [
-      inl same ↦ cond-true (same_name other name) _ _ same ∙ sym (ap (λ o. option_or o (cond (same_name other name) (Some next) None)) (none same) ∙ cond-true (same_name other name) _ _ same)
-    | inr apart ↦ cond-false (same_name other name) _ _ apart ∙ kept_none old ∙ sym (ap (λ o. option_or old o) (cond-false (same_name other name) (Some next) None apart))
+      | inl same ↦ cond-true (same_name other name) _ _ same ∙ sym (ap (λ o. option_or o (cond (same_name other name) (Some next) None)) (none same) ∙ cond-true (same_name other name) _ _ same)
+      | inr apart ↦ cond-false (same_name other name) _ _ apart ∙ kept_none old ∙ sym (ap (λ o. option_or old o) (cond-false (same_name other name) (Some next) None apart))
     ]
   where
     kept_none : (o : Option ℕ) → o ≡ option_or o None
@@ -76,12 +76,12 @@ kept_is name other old new next is none =
 pub position_append : {K : Type 0} (t : K → Bool) (n : ℕ) (xs ys : List K) → position_from t n (xs ++ ys) ≡ option_or (position_from t n xs) (position_from t (n + length xs) ys)
 position_append t n [] ys = ap (λ m. position_from t m ys) (sym (add-zero n))
 position_append t n (x ∷ xs) ys = elim (cases_Bool (t x)) [
-    inl is ↦ cond-true (t x) _ _ is ∙ sym (ap (λ o. option_or o (position_from t (n + length (x ∷ xs)) ys)) (cond-true (t x) (Some n) (position_from t (n + 1) xs) is))
+  | inl is ↦ cond-true (t x) _ _ is ∙ sym (ap (λ o. option_or o (position_from t (n + length (x ∷ xs)) ys)) (cond-true (t x) (Some n) (position_from t (n + 1) xs) is))
   | inr no_match ↦
       cond-false (t x) _ _ no_match ∙ position_append t (n + 1) xs ys
       ∙ ap (λ m. option_or (position_from t (n + 1) xs) (position_from t m ys)) (let e : n + 1 + length xs ≡ n + suc (length xs) = omega arith in e)
       ∙ sym (ap (λ o. option_or o (position_from t (n + length (x ∷ xs)) ys)) (cond-false (t x) (Some n) (position_from t (n + 1) xs) no_match))
-  ]
+]
 
 module _ {A : Type 0} (f : A → Name) (names : List A) (i : ℕ) (d : A) (y : Name) (inside : i < length names) (is : y ≡ f (get_or names i d)) where
   so_far : length (map f (take i names)) ≡ i
@@ -106,7 +106,7 @@ module _ {A : Type 0} (f : A → Name) (names : List A) (i : ℕ) (d : A) (y : N
       ap (λ o. unwrap_or o i) (before y)
       ∙ unwrapped (position_from (same_name y) 0 (map f (take i names)))
       ∙ ap (λ o. unwrap_or (option_or (position_from (same_name y) 0 (map f (take i names))) o) 0)
-        (ap Some (sym (zero-add (length (map f (take i names))) ∙ so_far)) ∙ sym (cond-true (same_name y y) _ _ (same_itself y)))
+      (ap Some (sym (zero-add (length (map f (take i names))) ∙ so_far)) ∙ sym (cond-true (same_name y y) _ _ (same_itself y)))
       ∙ ap (λ o. unwrap_or o 0) (sym (position_append (same_name y) 0 (map f (take i names)) (y ∷ map f (drop (i + 1) names))))
       ∙ ap (λ ys. unwrap_or (position_from (same_name y) 0 ys) 0) (sym whole)
     where
@@ -134,20 +134,22 @@ labels_are G before after numbers n [] long is = refl
 labels_are G before after numbers n (l ∷ labels) long is =
     ap (λ c. label_with c l ∷ labels_numbered numbers (n + 1) labels) (ap (λ xs. get_or xs n 0) is ∙ get_or_at before (G l) (map G labels ++ after) 0 n long)
     ∙ ap (λ rows. label_with (G l) l ∷ rows)
-      (labels_are G (before ++ G l ∷ []) after numbers (n + 1) labels (length_push before (G l) ∙ ap (λ m. m + 1) long) (is ∙ sym (append_assoc before (G l ∷ []) (map G labels ++ after))))
+    (labels_are G (before ++ G l ∷ []) after numbers (n + 1) labels (length_push before (G l) ∙ ap (λ m. m + 1) long) (is ∙ sym (append_assoc before (G l ∷ []) (map G labels ++ after))))
 
 gotos_are : (G : GotoRow → ℕ) (before after numbers : List ℕ) (n : ℕ) (gotos : List GotoRow) → length before ≡ n → numbers ≡ before ++ (map G gotos ++ after) → gotos_numbered numbers n gotos ≡ map (λ g. goto_with (G g) g) gotos
 gotos_are G before after numbers n [] long is = refl
 gotos_are G before after numbers n (g ∷ gotos) long is =
     ap (λ c. goto_with c g ∷ gotos_numbered numbers (n + 1) gotos) (ap (λ xs. get_or xs n 0) is ∙ get_or_at before (G g) (map G gotos ++ after) 0 n long)
     ∙ ap (λ rows. goto_with (G g) g ∷ rows)
-      (gotos_are G (before ++ G g ∷ []) after numbers (n + 1) gotos (length_push before (G g) ∙ ap (λ m. m + 1) long) (is ∙ sym (append_assoc before (G g ∷ []) (map G gotos ++ after))))
+    (gotos_are G (before ++ G g ∷ []) after numbers (n + 1) gotos (length_push before (G g) ∙ ap (λ m. m + 1) long) (is ∙ sym (append_assoc before (G g ∷ []) (map G gotos ++ after))))
 
 module _ (spelled : Spelling) (labels : List LabelRow) (gotos : List GotoRow) (numbers : List ℕ) (is : numbers ≡ map (first_place (names_in spelled labels gotos)) (names_in spelled labels gotos)) where
   N : List Name
   N = names_in spelled labels gotos
+
   G : LabelRow → ℕ
   G l = first_place (names_in spelled labels gotos) (label_name spelled l)
+
   H : GotoRow → ℕ
   H g = first_place (names_in spelled labels gotos) (goto_name spelled g)
 

@@ -1,16 +1,15 @@
 -- What the order of a chunk's occurrences tells of its functions and its jumps.
-use Rattle.std.proofs.Common.{◌≡◌, ℕ, ◌+◌, ◌<◌, ◌≤◌, Bool, true, false, cond, List, [], ◌∷◌, Option, Some, None, All, AllPairs, length, get_or, take, ◌++◌, map, refl, sym, ap, ◌∙◌, arith}
+use Rattle.std.proofs.Common.{◌≡◌, ℕ, ◌+◌, ◌<◌, ◌≤◌, false, cond, List, [], ◌∷◌, Option, Some, None, All, AllPairs, length, get_or, take, ◌++◌, map, refl, sym, ap, ◌∙◌, arith}
 use Rattle.std.proofs.lemmas.List.{get_or-map}
 use Rattle.std.specs.List.{filter_map}
 use Rattle.std.specs.List.Sorted.{IsNonDecreasingBy}
 use Rattle.std.specs.Option.{option_map_or, option_or, option_to_list}
-use Rattle.luf_scope.specs.Local.{last_passing, function_by, functions_of, function_of, is_held}
-use Rattle.luf_scope.specs.Order.{place, behind, is_loop, AreOrdered}
+use Rattle.luf_scope.specs.Local.{last_passing, function_by, is_held}
+use Rattle.luf_scope.specs.Order.{place, is_loop}
 use Rattle.luf_scope.proofs.Ordered.{all_given, pairs_given}
 use Rattle.luf_scope.specs.declared.occurrence.Occurrence.{Occurrence}
-use Rattle.luf_scope.specs.declared.occurrence.Occurrence.TheVariants.{Function, Loop, Label, Goto, Break}
+use Rattle.luf_scope.specs.declared.occurrence.Occurrence.TheVariants.{Function, Break}
 use Rattle.luf_goto.specs.declared.holders.Extent.{Extent}
-use Rattle.luf_goto.specs.declared.holders.Spot.{Spot}
 use Rattle.luf_goto.specs.inner.Holders.{holds, last_holding, one_higher}
 use Rattle.luf_goto.specs.inner.Sites.{IsInOrder, home_of, stop_at, function_extent}
 use Rattle.luf_goto.proofs.Lists.{given_more, rising_pairs, rising_map, map_through}
@@ -58,7 +57,7 @@ pub row_more :
     → new ≡ filter_map (λ o. h (home_of os (place o)) o) (take (i + 1) os)
 row_more h os homes i home o old new all inside is at added before =
     let one : home ≡ home_of os (place o) =
-        at ∙ ap (λ hs. get_or hs i home) all ∙ get_or-map (λ x. home_of os (place x)) os i o home inside ∙ ap (λ x. home_of os (place x)) (sym is) in
+    at ∙ ap (λ hs. get_or hs i home) all ∙ get_or-map (λ x. home_of os (place x)) os i o home inside ∙ ap (λ x. home_of os (place x)) (sym is) in
     added
     ∙ ap (λ x. x ++ option_to_list (h home o)) before
     ∙ ap (λ x. filter_map (λ y. h (home_of os (place y)) y) (take i os) ++ option_to_list (h x o)) one

@@ -1,5 +1,5 @@
 -- What is known of the first extents, from place to place, and the answer that it gives.
-use Rattle.std.proofs.Common.{◌≡◌, ℕ, ◌+◌, ◌<◌, ◌≤◌, ◌⊎◌, Bool, true, false, List, [], ◌∷◌, Option, Some, None, length, get_or, replicate, suc, zero, refl, sym, ap, ◌∙◌, subst, inl, inr, ⊎_elim, cond, arith, add-one, add-zero}
+use Rattle.std.proofs.Common.{◌≡◌, ℕ, ◌+◌, ◌<◌, ◌≤◌, Bool, true, false, List, [], ◌∷◌, Some, None, length, get_or, replicate, suc, zero, refl, sym, ap, ◌∙◌, subst, inl, inr, ⊎_elim, cond, arith, add-zero}
 use Rattle.std.proofs.lemmas.List.{length-replicate, get_or-replicate, get_or_past, get_or_default}
 use Rattle.std.proofs.lemmas.Bool.{cases_lt, and_from, and_parts, eq-eqb, eqb-true, le-leb, leb-true, lt-ltb, ltb-true, false_from_ne_true}
 use Rattle.std.specs.List.Sorted.{IsNonDecreasingBy}
@@ -35,7 +35,7 @@ trail_later extents place later next last before up trail = record {
   before_within = trail.before_within;
   before_class = trail.before_class;
   before_rest = λ t i h less same. ⊎_elim inl (λ (e : (extent_at extents i).to ≤ place). inr (omega arith)) (trail.before_rest t i h less same);
-  }
+}
 
 pub trail_none : (extents : List Extent) (classes : ℕ) → IsTrail extents 0 0 (replicate classes 0) (replicate (length extents) 0)
 trail_none extents classes = record {
@@ -48,7 +48,7 @@ trail_none extents classes = record {
   before_within = λ t h. absurd (omega arith);
   before_class = λ t u h. absurd (omega arith);
   before_rest = λ t i h. absurd (omega arith);
-  }
+}
   where
     zero_at : (n c : ℕ) → ◌≡◌ {A = ℕ} (get_or (replicate n 0) c 0) 0
     zero_at n c = elim (cases_lt c n) [ inl h ↦ get_or-replicate {A = ℕ} n c 0 0 h | inr h ↦ get_or_past {X = ℕ} (replicate n 0) c 0 (omega (arith, length-replicate {A = ℕ} n 0)) ]
@@ -78,9 +78,10 @@ found_is extents s next top sorted within begun unbegun bound last = at_top top 
     beyond i d h over =
         subst (λ e. holds s e ≡ false) (get_or_default extents i nowhere d h)
         (not_held s (extent_at extents i) (λ same low high. elim (cases_lt i next) [
-          inl less ↦ elim (bound.rest i less same) [ inl x ↦ absurd (omega arith) | inr x ↦ absurd (omega arith) ]
-        | inr more ↦ let up = sorted next i nowhere more h in let un = unbegun (omega arith) in absurd (omega arith)
+          | inl less ↦ elim (bound.rest i less same) [ inl x ↦ absurd (omega arith) | inr x ↦ absurd (omega arith) ]
+          | inr more ↦ let up = sorted next i nowhere more h in let un = unbegun (omega arith) in absurd (omega arith)
         ]))
+
     at_top : (t : ℕ) → top ≡ t → top ≡ one_higher (last_holding extents s)
     at_top zero is = is ∙ ap one_higher (sym (last_passing_none (holds s) 0 extents (λ i d h. beyond i d h (omega arith))))
     at_top (suc u) is =

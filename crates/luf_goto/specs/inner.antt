@@ -8,3 +8,4 @@ pub mod Rows
 pub mod Leaps
 pub mod Faults
 pub mod Marking
+pub mod Targets

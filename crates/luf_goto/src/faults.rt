@@ -14,12 +14,10 @@ pub fn first_bad(
     ensures { result ≡ first_bad twice missing entering outside }
 {
     let labels = bad_at(twice, ScopeWhat::LabelTwice);
-    let gotos = first_of(
-        bad_at(missing, ScopeWhat::NoLabel),
-        bad_at(entering, ScopeWhat::JumpIntoScope),
-    );
+    let targets = bad_at(missing, ScopeWhat::NoLabel);
+    let scopes = bad_at(entering, ScopeWhat::JumpIntoScope);
     let breaks = bad_at(outside, ScopeWhat::BreakOutside);
-    first_of(labels, first_of(gotos, breaks))
+    first_of(first_of(first_of(labels, targets), scopes), breaks)
 }
 
 fn bad_at(token: Option<u32>, what: ScopeWhat) -> Option<ScopeBad>

@@ -89,7 +89,9 @@ impl Trail {
         ensures classes { vec_len self.new.last ≡ vec_len self.old.last }
         ensures found { result ≡ one_higher (last_holding extents.now spot) }
     {
-        while (self.next as usize) < extents.len() && extents[self.next as usize].from <= spot.place {
+        while (self.next as usize) < extents.len()
+            && extents[self.next as usize].from <= spot.place
+        {
             self.enter(extents, spot.place);
         }
         self.settle(extents, spot)

@@ -2,8 +2,8 @@
 ghost use Rattle.std.specs.Prelude.{◌≡◌, ◌<◌, length, All, IfSome, is_none, Bool, ℕ, Option};
 ghost use Rattle.luf_goto.specs.inner.Leaps.{first_failing, has_none, enters_scope, is_apart};
 
-use crate::sites::{GotoRow, LabelRow};
 use crate::holders::Extent;
+use crate::sites::{GotoRow, LabelRow};
 
 // The first goto that has no target, by its token.
 pub fn first_missing(gotos: &[GotoRow], targets: &[Option<u32>]) -> Option<u32>

@@ -6,6 +6,7 @@ mod firsts;
 mod holders;
 mod innermost;
 mod jumps;
+mod labelling;
 mod leaps;
 mod names;
 mod naming;
@@ -16,4 +17,5 @@ mod targets;
 mod twice;
 
 pub use jumps::Jumps;
+pub use labelling::labels;
 pub use luf_memory::Memory;

@@ -27,11 +27,7 @@ pub fn number_names(alloc: Global, names: &[Name<'_>]) -> Result<Vec<u32>, Memor
 }
 
 // The number of a name, which gets this one where it has none.
-fn number<'a>(
-    first: &mut BTreeMap<Name<'a>, u32>,
-    name: Name<'a>,
-    next: u32,
-) -> Result<u32, Memory>
+fn number<'a>(first: &mut BTreeMap<Name<'a>, u32>, name: Name<'a>, next: u32) -> Result<u32, Memory>
     ensures number { IfOk result (λ n. n ≡ unwrap_or (place_in first.old (name_of name.entry)) next) }
     ensures kept { OnOk result ((other : ℕ × List ℕ) → place_in first.new other ≡ option_or (place_in first.old other) (cond (same_name other (name_of name.entry)) (Some next) None)) }
 {

@@ -6,9 +6,9 @@ ghost use Rattle.luf_goto.specs.inner.Innermost.{AreInnermost};
 ghost use Rattle.luf_goto.specs.inner.Rows.{scope_extent, scope_spot};
 
 use crate::Memory;
+use crate::holders::{Extent, Spot};
 use crate::innermost::innermost;
 use crate::sites::LabelRow;
-use crate::holders::{Extent, Spot};
 use luf_scope::Occurrence;
 use std::alloc::Global;
 

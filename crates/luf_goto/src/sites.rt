@@ -163,6 +163,7 @@ fn place(o: &Occurrence) -> u32
         | Occurrence::Field(name) => name,
         Occurrence::ImplicitSelf { colon, .. } => colon,
         Occurrence::Function { from, .. } | Occurrence::Loop { from, .. } => from,
-        Occurrence::Goto { token, .. } | Occurrence::Varargs(token) | Occurrence::Break(token) => token,
+        Occurrence::Goto { token, .. } | Occurrence::Varargs(token) | Occurrence::Break(token) =>
+            token,
     }
 }

@@ -4,9 +4,9 @@ ghost use Rattle.std.specs.List.Sorted.{IsNonDecreasingBy};
 ghost use Rattle.luf_goto.specs.inner.Rows.{block_extents, goto_spot, target_of, AreTargets};
 
 use crate::Memory;
+use crate::holders::{Extent, Spot};
 use crate::innermost::innermost;
 use crate::sites::{GotoRow, LabelRow};
-use crate::holders::{Extent, Spot};
 use std::alloc::Global;
 
 // Its number, where a goto sees a label of its name.

@@ -6,8 +6,8 @@ ghost use Rattle.luf_goto.specs.inner.Rows.{seen_extent, name_spot};
 
 use crate::Memory;
 use crate::firsts::first_spot;
-use crate::sites::LabelRow;
 use crate::holders::{Extent, Spot};
+use crate::sites::LabelRow;
 use std::alloc::Global;
 
 // The first of them, by its token.

@@ -1,5 +1,5 @@
 -- Of many extents, the last that holds a place.
-use Rattle.std.specs.Prelude.{◌≡◌, ℕ, ◌+◌, ◌<◌, ◌≤◌, ◌⊎◌, Bool, ◌&&◌, Option, Some, None, List, length, slice_index, slice_index_or, suc, nat_le, nat_lt, nat_eq}
+use Rattle.std.specs.Prelude.{◌≡◌, ℕ, ◌+◌, ◌<◌, ◌≤◌, ◌⊎◌, Bool, ◌&&◌, Option, Some, None, List, length, slice_index, slice_index_or, nat_le, nat_lt, nat_eq}
 use Rattle.luf_scope.specs.Local.{last_passing}
 use Rattle.luf_goto.specs.declared.holders.Extent.{Extent}
 use Rattle.luf_goto.specs.declared.holders.Spot.{Spot}

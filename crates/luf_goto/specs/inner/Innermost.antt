@@ -1,5 +1,5 @@
 -- Of the extents that hold a spot, the innermost.
-use Rattle.std.specs.Prelude.{◌≡◌, ℕ, ◌+◌, ◌-◌, ◌*◌, ◌^◌, ◌<◌, ◌≤◌, Bool, true, false, Option, Some, None, List, length, slice_get, slice_index_or, nat_eq, if◌then◌else◌}
+use Rattle.std.specs.Prelude.{◌≡◌, ℕ, ◌+◌, ◌-◌, ◌*◌, ◌<◌, ◌≤◌, true, false, Option, Some, None, List, length, slice_get, slice_index_or, nat_eq, if◌then◌else◌}
 use Rattle.std.specs.List.{Contains}
 use Rattle.luf_goto.specs.declared.holders.Extent.{Extent}
 use Rattle.luf_goto.specs.declared.holders.Spot.{Spot}

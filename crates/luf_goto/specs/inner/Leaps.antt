@@ -1,5 +1,5 @@
 -- Gotos whose target fails a test.
-use Rattle.std.specs.Prelude.{ℕ, Bool, true, false, not, ◌&&◌, ◌||◌, cond, Option, Some, None, List, [], ◌∷◌, nat_le, nat_lt, is_none, slice_index_or}
+use Rattle.std.specs.Prelude.{ℕ, Bool, false, not, ◌&&◌, ◌||◌, cond, Option, Some, None, List, [], ◌∷◌, nat_le, nat_lt, is_none, slice_index_or}
 use Rattle.luf_goto.specs.declared.holders.Extent.{Extent}
 use Rattle.luf_goto.specs.declared.sites.LabelRow.{LabelRow}
 use Rattle.luf_goto.specs.declared.sites.GotoRow.{GotoRow}

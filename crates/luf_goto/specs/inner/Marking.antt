@@ -1,5 +1,5 @@
 -- The roles of the names of labels, in the order of their tokens.
-use Rattle.std.specs.Prelude.{◌≡◌, ℕ, ◌+◌, ◌≤◌, Option, Some, None, List, [], ◌∷◌, ◌++◌, slice_index_or}
+use Rattle.std.specs.Prelude.{ℕ, ◌+◌, ◌≤◌, Option, Some, None, List, [], ◌∷◌, ◌++◌, slice_index_or}
 use Rattle.std.specs.Option.{option_to_list}
 use Rattle.luf_scope.specs.declared.jump.JumpRole.{JumpRole}
 use Rattle.luf_scope.specs.declared.jump.JumpRole.TheVariants as jump

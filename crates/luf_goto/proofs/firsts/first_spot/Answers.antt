@@ -1,5 +1,4 @@
-use Rattle.std.proofs.Common.{◌≡◌, ◌∙◌, sym, true, false, arith}
-use Rattle.luf_goto.specs.inner.Firsts.{is_wanted}
+use Rattle.std.proofs.Common.{◌∙◌, sym, arith}
 use Rattle.luf_goto.proofs.Held.{first_here, not_here}
 use Rattle.luf_goto.proofs.firsts.first_spot.Goals as goal
 

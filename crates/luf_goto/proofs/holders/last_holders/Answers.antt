@@ -1,4 +1,4 @@
-use Rattle.std.proofs.Common.{◌≤◌, arith, rules}
+use Rattle.std.proofs.Common.{arith, rules}
 use Rattle.std.proofs.lemmas.Grind.{common_steps}
 use Rattle.luf_goto.specs.inner.Holders.{spot_at}
 use Rattle.luf_goto.proofs.Trails.{trail_later}

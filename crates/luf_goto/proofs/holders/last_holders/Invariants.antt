@@ -1,5 +1,4 @@
 use Rattle.std.proofs.Common.{◌≡◌, ℕ, ◌<◌, ◌≤◌, length, map, take, vec_len}
-use Rattle.luf_goto.specs.declared.holders.Spot.{Spot}
 use Rattle.luf_goto.specs.inner.Holders.{last_holding, one_higher, spot_at, IsTrail}
 use Rattle.luf_goto.proofs.holders.last_holders.Given as goal
 

@@ -1,4 +1,4 @@
-use Rattle.std.proofs.Common.{◌≡◌, ◌<◌, ◌∙◌, ◌^◌, Option, List, All, map, sym, ap, subst}
+use Rattle.std.proofs.Common.{◌≡◌, ◌<◌, ◌∙◌, ◌^◌, map}
 use Rattle.std.proofs.lemmas.Result.{IfOk-weaker}
 use Rattle.std.proofs.lemmas.List.Sorted.{All-permutation}
 use Rattle.luf_goto.specs.declared.holders.Extent.{Extent}
@@ -18,5 +18,5 @@ pub returns : goal.returns
 returns c =
     IfOk-weaker c.extents_at.result _ _
     (λ at (is : at.items ≡ map (extent_numbered c.sort.new.extents) c.as_slice.result.now).
-        innermost_is c.args.extents.now c.sort.new.extents c.args.spots.now c.as_slice.result.now at.items c.sort.ensures.permutation c.sort.ensures.sorted (c.as_slice.ensures.value ∙ c.in_ok-found.ensures.found) is)
+    innermost_is c.args.extents.now c.sort.new.extents c.args.spots.now c.as_slice.result.now at.items c.sort.ensures.permutation c.sort.ensures.sorted (c.as_slice.ensures.value ∙ c.in_ok-found.ensures.found) is)
     c.extents_at.ensures

@@ -1,4 +1,4 @@
-use Rattle.std.proofs.Common.{◌≡◌, ◌∙◌, sym, arith}
+use Rattle.std.proofs.Common.{◌∙◌, sym, arith}
 use Rattle.luf_goto.specs.inner.Leaps.{has_none}
 use Rattle.luf_goto.proofs.Leaping.{goes_on}
 use Rattle.luf_goto.proofs.leaps.first_missing.Goals as goal

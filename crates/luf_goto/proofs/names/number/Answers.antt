@@ -1,4 +1,4 @@
-use Rattle.std.proofs.Common.{◌≡◌, None, sym, ap, ◌∙◌}
+use Rattle.std.proofs.Common.{sym, ap, ◌∙◌}
 use Rattle.luf_goto.specs.inner.Names.{name_of, place_in}
 use Rattle.luf_goto.proofs.Numbers.{same_is, kept_is}
 use Rattle.luf_goto.proofs.names.number.Goals as goal

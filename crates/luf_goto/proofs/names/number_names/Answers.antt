@@ -1,4 +1,4 @@
-use Rattle.std.proofs.Common.{◌≡◌, ◌∙◌, ◌++◌, map, ap, sym, arith, refl, [], ℕ, List, Bor}
+use Rattle.std.proofs.Common.{◌∙◌, map, arith, refl, [], ℕ, List, Bor}
 use Rattle.luf_goto.specs.inner.Names.{name_of, place_in, first_place}
 use Rattle.luf_goto.proofs.Numbers.{numbered_more, number_is, numbers_more}
 use Rattle.luf_goto.proofs.names.number_names.Goals as goal

@@ -1,4 +1,4 @@
-use Rattle.std.proofs.Common.{◌≡◌, ◌∙◌, ◌^◌, ◌<◌, List, All, map, false, sym, ap, subst, arith}
+use Rattle.std.proofs.Common.{◌∙◌, ◌^◌, ◌<◌, List, All, false, sym, subst, arith}
 use Rattle.std.specs.List.Sorted.{IsNonDecreasingBy}
 use Rattle.std.proofs.lemmas.List.Elements.{All-map}
 use Rattle.luf_goto.specs.declared.holders.Extent.{Extent}

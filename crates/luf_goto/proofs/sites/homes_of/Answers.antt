@@ -1,13 +1,12 @@
-use Rattle.std.proofs.Common.{◌≡◌, ◌<◌, ◌∙◌, List, All, map, sym, ap, subst, arith, rules}
+use Rattle.std.proofs.Common.{◌≡◌, ◌<◌, ◌∙◌, List, All, map, sym, ap, subst, arith}
 use Rattle.std.specs.List.{filter_map}
 use Rattle.std.specs.List.Sorted.{IsNonDecreasingBy}
 use Rattle.std.proofs.lemmas.Result.{IfOk-weaker}
-use Rattle.std.proofs.lemmas.List.Elements.{All-same, All-map}
-use Rattle.luf_scope.specs.Order.{place}
+use Rattle.std.proofs.lemmas.List.Elements.{All-map}
 use Rattle.luf_goto.specs.declared.holders.Extent.{Extent}
 use Rattle.luf_goto.specs.declared.holders.Spot.{Spot}
 use Rattle.luf_goto.specs.inner.Holders.{last_holding, one_higher}
-use Rattle.luf_goto.specs.inner.Sites.{home_of, stop_at, function_extent}
+use Rattle.luf_goto.specs.inner.Sites.{stop_at, function_extent}
 use Rattle.luf_goto.proofs.Places.{functions_sorted, functions_in_one, stops_rise, homes_found}
 use Rattle.luf_goto.proofs.sites.homes_of.Goals as goal
 
@@ -32,7 +31,7 @@ pub returns : goal.returns
 returns c =
     IfOk-weaker c.last_holders.result _ _
     (λ found (is : found.items ≡ map (λ s. one_higher (last_holding c.as_slice.result.now s)) c.as_slice-2.result.now).
-        is ∙ ap (λ (es : List Extent). map (λ s. one_higher (last_holding es s)) c.as_slice-2.result.now) (c.as_slice.ensures.value ∙ c.in_ok-functions.ensures)
-        ∙ ap (map (λ s. one_higher (last_holding (filter_map function_extent c.args.os.now) s))) (c.as_slice-2.ensures.value ∙ c.in_ok-stops.ensures)
-        ∙ homes_found c.args.os.now)
+    is ∙ ap (λ (es : List Extent). map (λ s. one_higher (last_holding es s)) c.as_slice-2.result.now) (c.as_slice.ensures.value ∙ c.in_ok-functions.ensures)
+    ∙ ap (map (λ s. one_higher (last_holding (filter_map function_extent c.args.os.now) s))) (c.as_slice-2.ensures.value ∙ c.in_ok-stops.ensures)
+    ∙ homes_found c.args.os.now)
     c.last_holders.ensures.found

@@ -1,4 +1,4 @@
-use Rattle.std.proofs.Common.{◌≡◌, ◌∙◌, ◌^◌, ◌<◌, Option, List, All, map, sym, ap, subst}
+use Rattle.std.proofs.Common.{◌≡◌, ◌∙◌, ◌^◌, ◌<◌, List, All, map, sym, ap, subst}
 use Rattle.std.specs.List.Sorted.{IsNonDecreasingBy}
 use Rattle.std.proofs.lemmas.List.Elements.{All-map}
 use Rattle.std.proofs.lemmas.Result.{IfOk-weaker}
@@ -31,6 +31,6 @@ pub returns : goal.returns
 returns c =
     IfOk-weaker c.numbers_of.result _ _
     (λ numbers (is : numbers.items ≡ map target_of c.as_slice-2.result.now).
-        targets_are c.args.labels.now c.args.gotos.now c.as_mut_slice.result.now c.as_slice.result.now c.in_ok-found.found.items numbers.items c.requires.few
-        (c.as_mut_slice.ensures.value ∙ c.in_ok-blocks.ensures) (c.as_slice.ensures.value ∙ c.in_ok-spots.ensures) c.in_ok-found.ensures (is ∙ ap (map target_of) c.as_slice-2.ensures.value))
+    targets_are c.args.labels.now c.args.gotos.now c.as_mut_slice.result.now c.as_slice.result.now c.in_ok-found.found.items numbers.items c.requires.few
+    (c.as_mut_slice.ensures.value ∙ c.in_ok-blocks.ensures) (c.as_slice.ensures.value ∙ c.in_ok-spots.ensures) c.in_ok-found.ensures (is ∙ ap (map target_of) c.as_slice-2.ensures.value))
     c.numbers_of.ensures
