@@ -3,7 +3,7 @@ use Rattle.std.proofs.Common.{◌≡◌, ℕ, suc, ◌<◌, ◌≤◌, ◌⊎◌
 use Rattle.std.proofs.lemmas.List.Elements.{All-head, All-tail, All-cons, All-nil, All-append, All-weaker}
 use Rattle.std.proofs.lemmas.List.Kept.{AllPairs-cons}
 use Rattle.luf_scope.specs.declared.occurrence.Occurrence.{Occurrence}
-use Rattle.luf_scope.specs.Order.{place, behind, declares, from_of, to_of, is_loop, is_label, IsPlaced, AreNested, Follows, Opens, Within, AreOrdered}
+use Rattle.luf_scope.specs.Order.{place, behind, declares, from_of, to_of, is_loop, is_label, AttributeBehind, IsPlaced, AreNested, Follows, Opens, Within, AreOrdered}
 
 pub pairs_head : {X : Type 0} (R : X → X → Type 0) (x : X) (xs : List X) → AllPairs R (x ∷ xs) → All (R x) xs
 pairs_head R x xs pairs k d within = pairs 0 (suc k) d (omega arith) (omega arith)
@@ -88,12 +88,12 @@ declared_first a m e c u os own low high opens nested rest =
       within = All-cons (Within a e c) u os (record { own = own; low = low; high = omega arith; opens = λ du. opens }) (wider a m e e c os (omega arith) (omega arith) rest.up_to rest).within;
     }
 
--- what is no loop and no label
+-- what is no loop and no label, with its attribute behind it
 abbrev pub IsPlain : Occurrence → Type 0
-IsPlain u = (is_loop u ≡ false) × (is_label u ≡ false)
+IsPlain u = (is_loop u ≡ false) × (is_label u ≡ false) × AttributeBehind u
 
 pub plain_placed : (u : Occurrence) → IsPlain u → place u < behind u → IsPlaced u
-plain_placed u plain some = record { long = omega (arith, some); some = λ _. some; block = λ is. absurd (true≢false (sym is ∙ plain.1)) }
+plain_placed u plain some = record { long = omega (arith, some); some = λ _. some; attribute = plain.2; block = λ is. absurd (true≢false (sym is ∙ plain.1)) }
 
 -- names in a row, of one scope
 pub data Row (f t : ℕ) : ℕ → ℕ → List Occurrence → Type 0 where

@@ -23,7 +23,7 @@ use Rattle.luf_scope.specs.Occurrences.{Holder, span_of, body_of, span_of_body, 
 use Rattle.luf_scope.specs.declared.occurrence.Occurrence.{Occurrence}
 use Rattle.luf_scope.specs.declared.occurrence.Occurrence.TheVariants as occurrence
 use Rattle.luf_scope.specs.declared.occurrence.Occurrence.TheVariants.{Local, LocalFunction, Parameter, ImplicitSelf, LoopVariable, Reads, Assigns, Varargs, Function, Loop, Label, Goto, Break}
-use Rattle.luf_scope.specs.Order.{place, behind, declares, from_of, IsPlaced, AreOrdered}
+use Rattle.luf_scope.specs.Order.{place, behind, declares, from_of, AttributeBehind, IsPlaced, AreOrdered}
 use Rattle.luf_scope.proofs.Lying.{nothing_lies, wider, out, joins, one_first, one_alone, Row, no_row, in_row, row_on, row_scope, row_lies, round_first, begin_in, HasScope, IsPlain, plain_placed}
 
 -- what lies in a part that equals it
@@ -58,10 +58,10 @@ says {i = i} {j = j} u silent plain at last t = let next = t.next in one_alone i
 
 -- a loop stands in front of its block
 loop_placed : (i j : ℕ) → IsPlaced (Loop i j)
-loop_placed i j = record { long = omega arith; some = λ is. absurd cc; block = λ is. absurd cc }
+loop_placed i j = record { long = omega arith; some = λ is. absurd cc; attribute = tt; block = λ is. absurd cc }
 
 label_placed : (n i j : ℕ) (at_end : Bool) → i ≤ n → n < j → IsPlaced (Label n i j at_end)
-label_placed n i j at_end begun ends = record { long = omega arith; some = λ _. omega arith; block = λ _. record { begun = begun; ends = ends } }
+label_placed n i j at_end begun ends = record { long = omega arith; some = λ _. omega arith; attribute = tt; block = λ _. record { begun = begun; ends = ends } }
 
 -- a statement from i to j in a block, whose scopes may end behind it
 record Fits (h : Holder) (i j : ℕ) : Type 0 where
@@ -91,22 +91,23 @@ string_lone (inr t) = lone t
 record Reaches (f t i k : ℕ) (a : Option ℕ) : Type 0 where
   long : i < behind (Local i a f t)
   within : behind (Local i a f t) ≤ k
+  attribute : AttributeBehind (Local i a f t)
 
 local_reaches : {toks : List Tok} {w : Tok} {i j k : ℕ} {a : Option ℕ} (f t : ℕ) → IsToken toks i w j → IsAttribute toks j k a → Reaches f t i k a
-local_reaches f t n g.no_attribute = let a = n.next in record { long = omega arith; within = omega arith }
-local_reaches f t n (g.an_attribute u v w) = let a = n.next in let b = u.next in let c = v.next in let d = w.next in record { long = omega arith; within = omega arith }
+local_reaches f t n g.no_attribute = let a = n.next in record { long = omega arith; within = omega arith; attribute = tt }
+local_reaches f t n (g.an_attribute u v w) = let a = n.next in let b = u.next in let c = v.next in let d = w.next in record { long = omega arith; within = omega arith; attribute = omega arith }
 
 declared_row : {toks : List Tok} {i j : ℕ} {declared : List Declared} (f t : ℕ) → AreDeclared toks i j declared → Row f t i j (declared_locals f t (map declared_of declared))
-declared_row f t (g.one_declared {k = k} n a) = let r = local_reaches f t n a in in_row {m = k} (refl, refl) (omega arith) r.long r.within refl refl (no_row (omega arith))
-declared_row f t (g.more_declared {l = l} n a u d) = let r = local_reaches f t n a in let next = u.next in let h = r.within in in_row {m = l} (refl, refl) (omega arith) r.long (omega (arith, h)) refl refl (declared_row f t d)
+declared_row f t (g.one_declared {k = k} n a) = let r = local_reaches f t n a in in_row {m = k} (refl, refl, r.attribute) (omega arith) r.long r.within refl refl (no_row (omega arith))
+declared_row f t (g.more_declared {l = l} n a u d) = let r = local_reaches f t n a in let next = u.next in let h = r.within in in_row {m = l} (refl, refl, r.attribute) (omega arith) r.long (omega (arith, h)) refl refl (declared_row f t d)
 
 loop_row : {toks : List Tok} {i j : ℕ} {names : List ℕ} (f t : ℕ) → AreNames toks i j names → Row f t i j (loop_variables_of (from_to f t) names)
-loop_row f t (g.one_name {j = j} n) = let next = n.next in in_row {m = j} (refl, refl) (omega arith) (omega arith) (omega arith) refl refl (no_row (omega arith))
-loop_row f t (g.more_names {k = k} n u d) = let next = n.next in let more = u.next in in_row {m = k} (refl, refl) (omega arith) (omega arith) (omega arith) refl refl (loop_row f t d)
+loop_row f t (g.one_name {j = j} n) = let next = n.next in in_row {m = j} (refl, refl, tt) (omega arith) (omega arith) (omega arith) refl refl (no_row (omega arith))
+loop_row f t (g.more_names {k = k} n u d) = let next = n.next in let more = u.next in in_row {m = k} (refl, refl, tt) (omega arith) (omega arith) (omega arith) refl refl (loop_row f t d)
 
 parameter_row : {toks : List Tok} {i j e : ℕ} {names : List ℕ} (f t : ℕ) → AreNames toks i j names → j ≤ e → Row f t i e (parameters_of (from_to f t) names)
-parameter_row f t (g.one_name {j = j} n) up = let next = n.next in in_row {m = j} (refl, refl) (omega arith) (omega arith) (omega arith) refl refl (no_row up)
-parameter_row f t (g.more_names {k = k} n u d) up = let next = n.next in let more = u.next in in_row {m = k} (refl, refl) (omega arith) (omega arith) (omega arith) refl refl (parameter_row f t d up)
+parameter_row f t (g.one_name {j = j} n) up = let next = n.next in in_row {m = j} (refl, refl, tt) (omega arith) (omega arith) (omega arith) refl refl (no_row up)
+parameter_row f t (g.more_names {k = k} n u d) up = let next = n.next in let more = u.next in in_row {m = k} (refl, refl, tt) (omega arith) (omega arith) (omega arith) refl refl (parameter_row f t d up)
 
 parameters_row : {toks : List Tok} {i j : ℕ} {names : List ℕ} {vararg : Bool} (f t : ℕ) → AreParams toks i j names vararg → Row f t i j (parameters_of (from_to f t) names)
 parameters_row f t g.no_params = no_row (omega arith)
@@ -117,16 +118,16 @@ parameters_row f t (g.names_and_dots d u v) = let a = u.next in let b = v.next i
 -- ---- the path of a function's name
 
 fields_lie : {toks : List Tok} {i j : ℕ} {path : List ℕ} → IsPath toks i j path → AreOrdered i j j (map occurrence.Field path)
-fields_lie (g.path_end {i = i} t) = says (occurrence.Field i) refl (refl, refl) refl refl t
-fields_lie (g.path_more {i = i} t u d) = says (occurrence.Field i) refl (refl, refl) refl refl t ⨾ skip u (fields_lie d)
+fields_lie (g.path_end {i = i} t) = says (occurrence.Field i) refl (refl, refl, tt) refl refl t
+fields_lie (g.path_more {i = i} t u d) = says (occurrence.Field i) refl (refl, refl, tt) refl refl t ⨾ skip u (fields_lie d)
 
 path_lies : {toks : List Tok} {i j : ℕ} {path : List ℕ} (method : Option ℕ) → IsPath toks i j path → AreOrdered i j j (path_of (first_of_path path) (rest_of_path path) method)
-path_lies None (g.path_end {i = i} t) = says (Assigns i) refl (refl, refl) refl refl t
-path_lies (Some name) (g.path_end {i = i} t) = says (Reads i) refl (refl, refl) refl refl t
-path_lies None (g.path_more {i = i} t u (g.path_end {i = k} v)) = says (Reads i) refl (refl, refl) refl refl t ⨾ skip u (says (occurrence.Field k) refl (refl, refl) refl refl v)
-path_lies None (g.path_more {i = i} t u (g.path_more {i = k} v w d)) = says (Reads i) refl (refl, refl) refl refl t ⨾ skip u (fields_lie (g.path_more {i = k} v w d))
-path_lies (Some name) (g.path_more {i = i} t u (g.path_end {i = k} v)) = says (Reads i) refl (refl, refl) refl refl t ⨾ skip u (says (occurrence.Field k) refl (refl, refl) refl refl v)
-path_lies (Some name) (g.path_more {i = i} t u (g.path_more {i = k} v w d)) = says (Reads i) refl (refl, refl) refl refl t ⨾ skip u (fields_lie (g.path_more {i = k} v w d))
+path_lies None (g.path_end {i = i} t) = says (Assigns i) refl (refl, refl, tt) refl refl t
+path_lies (Some name) (g.path_end {i = i} t) = says (Reads i) refl (refl, refl, tt) refl refl t
+path_lies None (g.path_more {i = i} t u (g.path_end {i = k} v)) = says (Reads i) refl (refl, refl, tt) refl refl t ⨾ skip u (says (occurrence.Field k) refl (refl, refl, tt) refl refl v)
+path_lies None (g.path_more {i = i} t u (g.path_more {i = k} v w d)) = says (Reads i) refl (refl, refl, tt) refl refl t ⨾ skip u (fields_lie (g.path_more {i = k} v w d))
+path_lies (Some name) (g.path_more {i = i} t u (g.path_end {i = k} v)) = says (Reads i) refl (refl, refl, tt) refl refl t ⨾ skip u (says (occurrence.Field k) refl (refl, refl, tt) refl refl v)
+path_lies (Some name) (g.path_more {i = i} t u (g.path_more {i = k} v w d)) = says (Reads i) refl (refl, refl, tt) refl refl t ⨾ skip u (fields_lie (g.path_more {i = k} v w d))
 
 pub semicolon_on : {toks : List Tok} {i j : ℕ} → IsSemicolon toks i j → i ≤ j
 semicolon_on g.no_semicolon = omega arith
@@ -162,7 +163,7 @@ body_round {i = i} {j = j} {k = k} {l = l} {o = o} {p = p} {params = params} {va
     let said : List Occurrence = occurrences_in_block (syntax_of_block body) in
     let names : List Occurrence = parameters_of (from_to l o) params in
     let row : AreOrdered j l o names = by (sym (append-nil names)) (row_lies (parameters_row l o d) (lone u) (omega arith) block.on) in
-    let whole : AreOrdered i o o (Function i p vararg ∷ (names ++ said)) = one_first i j o o (Function i p vararg) (names ++ said) refl (plain_placed (Function i p vararg) (refl, refl) (omega arith)) (omega arith) (omega arith) (joins j l o o names said row block) in
+    let whole : AreOrdered i o o (Function i p vararg ∷ (names ++ said)) = one_first i j o o (Function i p vararg) (names ++ said) refl (plain_placed (Function i p vararg) (refl, refl, tt) (omega arith)) (omega arith) (omega arith) (joins j l o o names said row block) in
     let begin_all : All (λ w. declares w ≡ true → l ≤ from_of w) (Function i p vararg ∷ (names ++ said)) =
     All-cons (λ w. declares w ≡ true → l ≤ from_of w) (Function i p vararg) (names ++ said) (λ h. absurd cc)
     (All-append (λ w. declares w ≡ true → l ≤ from_of w) names said
@@ -193,9 +194,9 @@ method_round {f = f} (g.a_method {i = k} {j = n} {k = l} t u) b =
     let on = b.on in
     let said : List Occurrence = occurrences_in_body (syntax_of_body f) in
     by (ap (λ s. method_of s (Some n) ++ said) b.span)
-    (longer b.within (round_first k n b.last b.first b.last b.last (ImplicitSelf (n - 1) b.first b.last) (occurrence.Field n ∷ said) (refl, refl) (omega arith) (omega arith) (omega arith) (omega arith) (refl, refl) b.up (omega arith) (omega arith) (inl refl)
+    (longer b.within (round_first k n b.last b.first b.last b.last (ImplicitSelf (n - 1) b.first b.last) (occurrence.Field n ∷ said) (refl, refl, tt) (omega arith) (omega arith) (omega arith) (omega arith) (refl, refl) b.up (omega arith) (omega arith) (inl refl)
     (All-cons (λ w. declares w ≡ true → b.first ≤ from_of w) (occurrence.Field n) said (λ h. absurd cc) b.begins)
-    (says (occurrence.Field n) refl (refl, refl) refl refl u ⨾ b.inner)))
+    (says (occurrence.Field n) refl (refl, refl, tt) refl refl u ⨾ b.inner)))
 
 loop_round : {toks : List Tok} {i j : ℕ} {b : Block} → IsBlock toks i j b → AreOrdered i j j (occurrences_in_block (syntax_of_block b)) → AreOrdered i j j (loop_of (span_of (syntax_of_block b)) ∷ occurrences_in_block (syntax_of_block b))
 loop_round {i = i} {j = j} {b = b} d block = by (ap (λ s. loop_of s ∷ occurrences_in_block (syntax_of_block b)) (block_span d)) (one_first i i j j (Loop i j) (occurrences_in_block (syntax_of_block b)) refl (loop_placed i j) (omega arith) (omega arith) block)
@@ -223,7 +224,7 @@ mutual
   simple_lies (g.false_simple t) = by (ap occurrences_in_expression (eq.false_syntax _ _)) (lone t)
   simple_lies (g.number_simple t) = by (ap occurrences_in_expression (eq.number_syntax _ _)) (lone t)
   simple_lies (g.string_simple d) = by (ap occurrences_in_expression (eq.string_syntax _ _)) (string_lone d)
-  simple_lies (g.vararg_simple {i = i} t) = by (ap occurrences_in_expression (eq.vararg_syntax _ _)) (says (Varargs i) refl (refl, refl) refl refl t)
+  simple_lies (g.vararg_simple {i = i} t) = by (ap occurrences_in_expression (eq.vararg_syntax _ _)) (says (Varargs i) refl (refl, refl, tt) refl refl t)
   simple_lies (g.function_simple t d) = by (ap occurrences_in_expression (eq.function_syntax _ _ _)) (skip t (body_whole (body_lies d)))
   simple_lies (g.table_simple d) = by (ap occurrences_in_expression (eq.table_syntax _ _ _)) (table_lies d)
   simple_lies (g.prefix_simple d _) = prefix_lies d
@@ -234,7 +235,7 @@ mutual
   prefix_lies (g.paren_prefix d) = paren_lies d
 
   variable_lies : {toks : List Tok} {i j : ℕ} {e : Expr} → IsVariable toks i j e → AreOrdered i j j (occurrences_in_expression (syntax_of_expr e))
-  variable_lies (g.name_variable {i = i} t) = by (ap occurrences_in_expression (eq.name_syntax _ _)) (says (Reads i) refl (refl, refl) refl refl t)
+  variable_lies (g.name_variable {i = i} t) = by (ap occurrences_in_expression (eq.name_syntax _ _)) (says (Reads i) refl (refl, refl, tt) refl refl t)
   variable_lies (g.suffixed_variable d suffixes) = by (ap occurrences_in_expression (eq.suffixed_syntax _ _ _ _)) (head_lies d ⨾ suffixes_lie suffixes)
 
   call_lies : {toks : List Tok} {i j : ℕ} {e : Expr} → IsCall toks i j e → AreOrdered i j j (occurrences_in_expression (syntax_of_expr e))
@@ -244,7 +245,7 @@ mutual
   paren_lies (g.paren t d u) = by (ap occurrences_in_expression (eq.paren_syntax _ _ _)) (skip t (end (expr_lies d) u))
 
   head_lies : {toks : List Tok} {i j : ℕ} {e : Expr} → IsHead toks i j e → AreOrdered i j j (occurrences_in_expression (syntax_of_expr e))
-  head_lies (g.name_head {i = i} t) = by (ap occurrences_in_expression (eq.name_syntax _ _)) (says (Reads i) refl (refl, refl) refl refl t)
+  head_lies (g.name_head {i = i} t) = by (ap occurrences_in_expression (eq.name_syntax _ _)) (says (Reads i) refl (refl, refl, tt) refl refl t)
   head_lies (g.paren_head d) = paren_lies d
 
   suffixes_lie : {toks : List Tok} {calls : Bool} {i j : ℕ} {suffixes : List Suffix} → AreSuffixes toks calls i j suffixes → AreOrdered i j j (occurrences_in_suffixes (suffixes_of (map syntax_of_suffix suffixes)))
@@ -252,10 +253,10 @@ mutual
   suffixes_lie (g.more_suffixes d rest) = suffix_lies d ⨾ suffixes_lie rest
 
   suffix_lies : {toks : List Tok} {calls : Bool} {i j : ℕ} {s : Suffix} → IsSuffix toks calls i j s → AreOrdered i j j (occurrences_in_suffix (syntax_of_suffix s))
-  suffix_lies (g.dot_suffix {j = j} t u) = by (ap occurrences_in_suffix (eq.dot_syntax _)) (skip t (says (occurrence.Field j) refl (refl, refl) refl refl u))
+  suffix_lies (g.dot_suffix {j = j} t u) = by (ap occurrences_in_suffix (eq.dot_syntax _)) (skip t (says (occurrence.Field j) refl (refl, refl, tt) refl refl u))
   suffix_lies (g.index_suffix t d u) = by (ap occurrences_in_suffix (eq.index_syntax _)) (skip t (end (expr_lies d) u))
   suffix_lies (g.call_suffix d) = by (ap occurrences_in_suffix (eq.call_suffix_syntax _)) (args_lie d)
-  suffix_lies (g.method_suffix {j = j} t u d) = by (ap occurrences_in_suffix (eq.method_syntax _ _)) (skip t (says (occurrence.Field j) refl (refl, refl) refl refl u ⨾ args_lie d))
+  suffix_lies (g.method_suffix {j = j} t u d) = by (ap occurrences_in_suffix (eq.method_syntax _ _)) (skip t (says (occurrence.Field j) refl (refl, refl, tt) refl refl u ⨾ args_lie d))
 
   args_lie : {toks : List Tok} {i j : ℕ} {args : Args} → IsArgs toks i j args → AreOrdered i j j (occurrences_in_arguments (syntax_of_args args))
   args_lie (g.no_args t u) = by (ap occurrences_in_arguments (eq.args_of_syntax _ _ _ _)) (skip t (lone u))
@@ -278,7 +279,7 @@ mutual
 
   field_lies : {toks : List Tok} {i j : ℕ} {f : Field} → IsField toks i j f → AreOrdered i j j (occurrences_in_field (syntax_of_field f))
   field_lies (g.keyed_field t key u v value) = by (ap occurrences_in_field (eq.keyed_syntax _ _)) (skip t (expr_lies key) ⨾ skip u (skip v (expr_lies value)))
-  field_lies (g.named_field {i = i} t u value) = by (ap occurrences_in_field (eq.named_syntax _ _)) (says (occurrence.Field i) refl (refl, refl) refl refl t ⨾ skip u (expr_lies value))
+  field_lies (g.named_field {i = i} t u value) = by (ap occurrences_in_field (eq.named_syntax _ _)) (says (occurrence.Field i) refl (refl, refl, tt) refl refl t ⨾ skip u (expr_lies value))
   field_lies (g.item_field d) = by (ap occurrences_in_field (eq.item_syntax _)) (expr_lies d)
 
   body_lies : {toks : List Tok} {i j : ℕ} {f : FuncBody} → IsFuncBody toks i j f → BodyLies i j f
@@ -352,22 +353,22 @@ mutual
       let body = body_whole (body_lies d) in
       let next = n.next in
       by (ap (occurrences_in_statement h ended) (eq.local_function_syntax _ _ _ _) ∙ ap (λ from. LocalFunction k from h.end ∷ occurrences_in_body (syntax_of_body f)) (whole_body_span d))
-      (skip t (skip u (round_first k l o l h.end h.end (LocalFunction k l h.end) (occurrences_in_body (syntax_of_body f)) (refl, refl) (omega arith) (omega arith) (omega arith) (omega arith) (refl, refl) body.on (fit_end fits) (omega arith) (inl refl) (begin_in l o o (occurrences_in_body (syntax_of_body f)) body) body)))
+      (skip t (skip u (round_first k l o l h.end h.end (LocalFunction k l h.end) (occurrences_in_body (syntax_of_body f)) (refl, refl, tt) (omega arith) (omega arith) (omega arith) (omega arith) (refl, refl) body.on (fit_end fits) (omega arith) (inl refl) (begin_in l o o (occurrences_in_body (syntax_of_body f)) body) body)))
   stat_lies h ended (g.label_stat {i = i} {j = j} {l = l} t n u) fits =
       let a = t.next in let b = n.next in let c = u.next in let low = fits.low in let high = fits.high in
       by (ap (occurrences_in_statement h ended) (eq.label_syntax _ _ _))
       (in_block (fit_end fits) (one_alone i l l (Label j h.span.from h.span.to (not h.until && ended)) refl (label_placed j h.span.from h.span.to (not h.until && ended) (omega (arith, low)) (omega (arith, high))) (omega arith) (omega arith) (omega arith)))
   stat_lies h ended (g.goto_stat {i = i} {j = j} {k = k} t n) fits =
       let a = t.next in let b = n.next in
-      by (ap (occurrences_in_statement h ended) (eq.goto_syntax _ _ _)) (in_block (fit_end fits) (one_alone i k k (Goto i j) refl (plain_placed (Goto i j) (refl, refl) (omega arith)) (omega arith) (omega arith) (omega arith)))
-  stat_lies h ended (g.break_stat {i = i} t) fits = by (ap (occurrences_in_statement h ended) (eq.break_syntax _ _)) (in_block (fit_end fits) (says (Break i) refl (refl, refl) refl refl t))
+      by (ap (occurrences_in_statement h ended) (eq.goto_syntax _ _ _)) (in_block (fit_end fits) (one_alone i k k (Goto i j) refl (plain_placed (Goto i j) (refl, refl, tt) (omega arith)) (omega arith) (omega arith) (omega arith)))
+  stat_lies h ended (g.break_stat {i = i} t) fits = by (ap (occurrences_in_statement h ended) (eq.break_syntax _ _)) (in_block (fit_end fits) (says (Break i) refl (refl, refl, tt) refl refl t))
 
   targets_lie : {toks : List Tok} {i j : ℕ} {es : List Expr} → AreTargets toks i j es → AreOrdered i j j (occurrences_in_targets (expressions_of (map syntax_of_expr es)))
   targets_lie (g.one_target d) = target_lies d ⨾ none
   targets_lie (g.more_targets d t rest) = target_lies d ⨾ skip t (targets_lie rest)
 
   target_lies : {toks : List Tok} {i j : ℕ} {e : Expr} → IsVariable toks i j e → AreOrdered i j j (target_of (syntax_of_expr e) (occurrences_in_expression (syntax_of_expr e)))
-  target_lies (g.name_variable {i = i} t) = by (ap (λ x. target_of x (occurrences_in_expression x)) (eq.name_syntax _ _)) (says (Assigns i) refl (refl, refl) refl refl t)
+  target_lies (g.name_variable {i = i} t) = by (ap (λ x. target_of x (occurrences_in_expression x)) (eq.name_syntax _ _)) (says (Assigns i) refl (refl, refl, tt) refl refl t)
   target_lies (g.suffixed_variable d suffixes) = by (ap (λ x. target_of x (occurrences_in_expression x)) (eq.suffixed_syntax _ _ _ _)) (head_lies d ⨾ suffixes_lie suffixes)
 
   arms_lie : {toks : List Tok} {i j : ℕ} {arms : List Arm} → AreArms toks i j arms → AreOrdered i j j (occurrences_in_arms (arms_of (map syntax_of_arm arms)))

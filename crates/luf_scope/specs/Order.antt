@@ -90,10 +90,16 @@ pub record StandsInBlock (u : Occurrence) : Type 0 where
   pub begun : block_from u ≤ place u
   pub ends : place u < block_to u
 
+-- an attribute stands behind its name
+abbrev pub AttributeBehind : Occurrence → Type 0
+AttributeBehind (Local name (Some attribute) from to) = name < attribute
+AttributeBehind _ = Unit {0}
+
 -- what holds of an occurrence by itself: but a loop stands at one token at least
 pub record IsPlaced (u : Occurrence) : Type 0 where
   pub long : place u ≤ behind u
   pub some : is_loop u ≡ false → place u < behind u
+  pub attribute : AttributeBehind u
   pub block : is_label u ≡ true → StandsInBlock u
 
 -- Of two scopes, that of the earlier declaration first: the later one ends before the earlier begins, as in an
