@@ -23,8 +23,13 @@ use luf_scope::{Occurrence, ScopeBad, ScopeErr, occurrences};
 use luf_tree::Chunk;
 use std::alloc::Global;
 
-/// What the names of labels refer to in the chunk of a cut, or its first fault of labels, gotos and breaks. Time and
-/// memory are those of sorting its labels, gotos and local variables.
+/// What the names of labels refer to in the chunk of a cut. Time is that of sorting its labels, gotos and local variables,
+/// and memory is linear.
+///
+/// # Errors
+///
+/// `Bad` with the first fault of a jump: a label that is told twice, a `goto` that sees no label or goes into the scope of
+/// a local variable, or a `break` outside a loop. `Memory`.
 pub fn labels(alloc: Global, src: &[u8], cut: &Cut, c: &Chunk) -> Result<Jumps, ScopeErr>
     requires cut { IsCut src.now cut.now }
     requires tree { IsChunk (toks_of cut.now) c.now }
