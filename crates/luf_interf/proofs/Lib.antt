@@ -13,3 +13,4 @@ pub mod Program
 pub mod Resolve
 mod NamesExamples
 pub mod Faults
+pub mod Exist

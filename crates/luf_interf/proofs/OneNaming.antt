@@ -20,14 +20,14 @@ one_first Free Same to back name other a b =
 
 module _ (spelled : Spelling) (os : List Occurrence) where
   -- what is free hangs on the names of those before alone
-  free_alike : (naming other : Naming) (n : ℕ) (v : LocalVariable) → ((m : ℕ) (u : LocalVariable) → m < n → IsLocal spelled os m u → is_fixed u ≡ false → naming m ≡ other m) → (name : List ℕ) → IsFree spelled os naming n v name → IsFree spelled os other n v name
+  pub free_alike : (naming other : Naming) (n : ℕ) (v : LocalVariable) → ((m : ℕ) (u : LocalVariable) → m < n → IsLocal spelled os m u → is_fixed u ≡ false → naming m ≡ other m) → (name : List ℕ) → IsFree spelled os naming n v name → IsFree spelled os other n v name
   free_alike naming other n v agree name f = record {
     allowed = f.allowed;
     no_global = f.no_global;
     no_earlier = λ m u below is free meets same. f.no_earlier m u below is free meets (agree m u below is free ∙ same);
   }
 
-  free_label_alike : (naming other : Naming) (n : ℕ) (l : LabelAt) → ((m : ℕ) (k : LabelAt) → m < n → IsLabel spelled os m k → naming m ≡ other m) → (name : List ℕ) → IsFreeLabel spelled os naming n l name → IsFreeLabel spelled os other n l name
+  pub free_label_alike : (naming other : Naming) (n : ℕ) (l : LabelAt) → ((m : ℕ) (k : LabelAt) → m < n → IsLabel spelled os m k → naming m ≡ other m) → (name : List ℕ) → IsFreeLabel spelled os naming n l name → IsFreeLabel spelled os other n l name
   free_label_alike naming other n l agree name f = record {
     allowed = f.allowed;
     no_earlier = λ m k below is meets same. f.no_earlier m k below is meets (agree m k below is ∙ same);

@@ -42,11 +42,11 @@ unary_sign t is = false_from_ne_true (is_word t) (λ word. true≢false (sym is 
 pub binary_sign : (t : Tok) (m : ℕ) → binary_precedence t ≡ m → 0 < m → is_word t ≡ false
 binary_sign t m is some = false_from_ne_true (is_word t) (λ word. let none = word_binary t word in omega (arith, is, some, none))
 
-among_left : {X : Type 0} {x : X} {xs : List X} (ys : List X) → Among x xs → Among x (xs ++ ys)
+pub among_left : {X : Type 0} {x : X} {xs : List X} (ys : List X) → Among x xs → Among x (xs ++ ys)
 among_left ys here = here
 among_left ys (there m) = there (among_left ys m)
 
-among_right : {X : Type 0} {x : X} (xs : List X) {ys : List X} → Among x ys → Among x (xs ++ ys)
+pub among_right : {X : Type 0} {x : X} (xs : List X) {ys : List X} → Among x ys → Among x (xs ++ ys)
 among_right [] m = m
 among_right (y ∷ xs) m = there (among_right xs m)
 

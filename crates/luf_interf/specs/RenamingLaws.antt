@@ -83,3 +83,7 @@ abbrev pub LeastNamesHaveNoFault : Type 0
 LeastNamesHaveNoFault =
     (toks : List Tok) (chunk : Chunk) (spelled : Spelling) (naming label_naming : Naming) → IsChunk toks chunk → AreLeast spelled (said_in chunk) naming label_naming
     → scope_fault spelled (said_in chunk) ≡ None → scope_fault (renamed spelled (said_in chunk) naming label_naming) (said_in chunk) ≡ None
+
+-- each source has least names
+abbrev pub LeastNamesExist : Type 0
+LeastNamesExist = (spelled : Spelling) (occurrences : List Occurrence) → (naming : Naming) × (label_naming : Naming) × AreLeast spelled occurrences naming label_naming

@@ -1,5 +1,5 @@
 // Laws of new names.
-ghost use Rattle.luf_interf.specs.RenamingLaws.{CapturedOrAlike, LeastIsFree, LeastNamesHaveNoFault, LeastNamesKeepJumps, LeastNamesKeepRoles, LeastNamesResolveAlike, OneNaming};
+ghost use Rattle.luf_interf.specs.RenamingLaws.{CapturedOrAlike, LeastIsFree, LeastNamesExist, LeastNamesHaveNoFault, LeastNamesKeepJumps, LeastNamesKeepRoles, LeastNamesResolveAlike, OneNaming};
 
 /// Whatever the naming, a reference means what it meant exactly where nothing captures it.
 pub fn captured_or_alike()
@@ -34,4 +34,9 @@ pub fn least_names_resolve_alike()
 /// A source without scope faults has none under least names.
 pub fn least_names_have_no_fault()
     ensures { LeastNamesHaveNoFault }
+{}
+
+/// Each source has least names.
+pub fn least_names_exist()
+    ensures { LeastNamesExist }
 {}
