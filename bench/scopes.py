@@ -3,7 +3,7 @@
 "nested" is 200 functions in one another with 200 locals each, and references under them; "listed" is one `local` with a list of
 names and as many values; "labels" is labels of one block, "gotos" gotos to one label, "jumps" gotos to labels each, "sisters"
 blocks that each have the same label and a goto to it, "long" four names of a quarter of the source each. luac5.4 has limits of
-its own on most of them, so that only the growth and the memory are told; of "plain", which is small statements over locals, luac's
+its own on most of them, so that only the growth and the memory are told; of "plain", which is small functions, luac's
 seconds too.
 """
 import sys
@@ -31,9 +31,9 @@ def numbered(form, size):
 
 
 SHAPES = {
-    "plain": lambda size: repeated("", "do local a,b=1,2 a=b b=a end ", size),
+    "plain": lambda size: repeated("", "function f(a,b) local c=a a=b b=c end ", size),
     "nested": nested,
-    "listed": lambda size: "local " + ",".join(["x"] * (size // 4)) + "=" + ",".join(["x"] * (size // 4)),
+    "listed": lambda size: "local " + ",".join(["x"] * (size // 4 - 4)) + "=" + ",".join(["x"] * (size // 4 - 4)),
     "labels": lambda size: numbered("::l{}::", size),
     "gotos": lambda size: repeated("::l:: ", "goto l ", size),
     "jumps": lambda size: numbered("goto l{0} ::l{0}:: ", size),
