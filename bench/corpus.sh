@@ -14,6 +14,17 @@ packages=(
     wesnoth-1.16-data
 )
 
+# Ends the script where a program that it needs is missing.
+need() {
+    local program
+    for program in "$@"; do
+        if ! command -v "$program" >/dev/null; then
+            echo "$(basename "$0"): skipped, $program is missing"
+            exit 0
+        fi
+    done
+}
+
 # Fetches those of the packages named that are not there yet, in one call, and keeps of each its Lua files alone.
 fetch() {
     local archives package archive wanted known

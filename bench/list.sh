@@ -12,13 +12,7 @@ set -euo pipefail
 cd "$(dirname "$0")"
 . ./corpus.sh
 
-for program in apt-get apt-cache dpkg-deb luac5.4; do
-    if ! command -v "$program" >/dev/null; then
-        echo "list.sh: skipped, $program is missing"
-        exit 0
-    fi
-done
-
+need apt-get apt-cache dpkg-deb luac5.4
 mapfile -t lua_packages < <(printf '%s\n' "${packages[@]}" | grep '^lua-')
 fetch "${lua_packages[@]}"
 if ! compgen -G "$corpus/lua-*" >/dev/null; then

@@ -11,13 +11,7 @@ set -euo pipefail
 cd "$(dirname "$0")"
 . ./corpus.sh
 
-for program in apt-get apt-cache dpkg-deb luac5.4; do
-    if ! command -v "$program" >/dev/null; then
-        echo "real.sh: skipped, $program is missing"
-        exit 0
-    fi
-done
-
+need apt-get apt-cache dpkg-deb luac5.4
 fetch "${packages[@]}"
 if [ -z "$(ls -A "$corpus")" ]; then
     echo "real.sh: skipped, no package could be fetched"
