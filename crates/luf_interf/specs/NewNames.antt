@@ -8,6 +8,7 @@ use Rattle.luf_name.specs.Barred.{IsBarred}
 use Rattle.luf_name.specs.Order.{IsName, IsBefore}
 use Rattle.luf_scope.specs.Local.{Spelling, LocalVariable, binder_of, locals_of}
 use Rattle.luf_scope.specs.Jump.{LabelAt, jump_role_of}
+use Rattle.luf_scope.specs.Marks.{mark_at}
 use Rattle.luf_scope.specs.Role.{role_of}
 use Rattle.luf_scope.specs.declared.binder.Role.{Role}
 use Rattle.luf_scope.specs.declared.binder.Role.TheVariants as role
@@ -70,3 +71,31 @@ module _ (spelled : Spelling) (occurrences : List Occurrence) where
     -- how each token is spelled after it
     abbrev pub renamed : Spelling
     renamed token = new_word (role_of spelled occurrences token) (jump_role_of spelled occurrences token) (spelled token)
+
+    -- the new name of the local variable of this number, if it is renamed
+    abbrev pub name_of_local : ℕ → Option (List ℕ)
+    name_of_local n = if option_map_or is_fixed (slice_get (locals_of spelled occurrences) n) true then None else Some (naming n)
+
+    -- the new name of a label, at the label or at a goto
+    abbrev pub name_of_label : Option JumpRole → Option (List ℕ)
+    name_of_label (Some (jump.Label n)) = Some (label_naming n)
+    name_of_label (Some (jump.Goto n)) = Some (label_naming n)
+    name_of_label None = None
+
+    -- the new name at a token of this role, if it is that of a renamed local variable or of a label
+    abbrev pub name_in : Role → Option JumpRole → Option (List ℕ)
+    name_in (role.Declares n) to = name_of_local n
+    name_in (role.Refers n) to = name_of_local n
+    name_in role.Plain to = name_of_label to
+    name_in _ to = None
+
+    -- the new name at each token that has one
+    abbrev pub new_name_at : ℕ → Option (List ℕ)
+    new_name_at token = name_in (role_of spelled occurrences token) (jump_role_of spelled occurrences token)
+
+  -- what is written down of new names, by tokens, is the least names
+  pub record AreNames (names : List (ℕ × List ℕ)) : Type 0 where
+    pub naming : Naming
+    pub label_naming : Naming
+    pub least : AreLeast naming label_naming
+    pub at : (token : ℕ) → mark_at names token ≡ new_name_at naming label_naming token

@@ -1,5 +1,5 @@
 -- What a source resolves to is one, and depends on its bare program alone.
-use Rattle.std.specs.Prelude.{◌≡◌, ℕ, List, [], map, length, slice_get, unwrap_or}
+use Rattle.std.specs.Prelude.{◌≡◌, ℕ, None, List, [], map, length, slice_get, unwrap_or}
 use Rattle.std.specs.Option.{option_map}
 use Rattle.luf_lex.specs.Cut.{IsCut}
 use Rattle.luf_lex.specs.Tokens.{toks_of}
@@ -12,7 +12,8 @@ use Rattle.luf_tree.specs.TokenSyntax as tokens
 use Rattle.luf_bare.specs.Rank.{ranked}
 use Rattle.luf_bare.specs.ReadBack.{SpelledToken, TextWord, IsReadBack, spelled_at, word_at}
 use Rattle.luf_bare.specs.Significant.{significant}
-use Rattle.luf_scope.specs.Links.{spelling_in}
+use Rattle.luf_scope.specs.Fault.{scope_fault}
+use Rattle.luf_scope.specs.Links.{spelling_in, occurrences_of}
 use Rattle.luf_scope.specs.Local.{Spelling}
 use Rattle.luf_resolved.specs.Resolved.{ResolvedProgram, resolved}
 
@@ -42,3 +43,10 @@ abbrev pub WrittenResolvesAlike : Type 0
 WrittenResolvesAlike =
     (source : List SpelledToken) (chunk : Chunk) (text : List TextWord) → IsChunk (map (λ (w : SpelledToken). w.token) source) chunk → (back : IsReadBack source chunk text)
     → resolved (λ i. (word_at text i).spelled.spelling) (syntax_of back.read.tree) ≡ resolved (λ i. (spelled_at source i).spelling) (syntax_of chunk)
+
+-- a text that is written of a chunk without scope faults has none, as it is read
+abbrev pub WrittenHasNoFault : Type 0
+WrittenHasNoFault =
+    (source : List SpelledToken) (chunk : Chunk) (text : List TextWord) → IsChunk (map (λ (w : SpelledToken). w.token) source) chunk → (back : IsReadBack source chunk text)
+    → scope_fault (λ i. (spelled_at source i).spelling) (occurrences_of chunk) ≡ None
+    → scope_fault (λ i. (word_at text i).spelled.spelling) (occurrences_of back.read.tree) ≡ None

@@ -3,4 +3,4 @@
 
 mod laws;
 
-pub use laws::{bare_resolves_alike, one_meaning, written_resolves_alike};
+pub use laws::{bare_resolves_alike, one_meaning, written_has_no_fault, written_resolves_alike};

@@ -18,7 +18,8 @@ use Rattle.luf_parse.proofs.OneTree.{one_tree}
 use Rattle.luf_scope.specs.declared.fault.ScopeBad.{ScopeBad}
 use Rattle.luf_scope.specs.declared.fault.ScopeWhat.{ScopeWhat}
 use Rattle.luf_work.specs.Refusals.{start_of, IsLexicalAt, HasNoTreeAt, HasScopeFaultAt, IsSourceRefusal, TellsNoTree, IsSameRefusal, AnswersRefusal}
-use Rattle.luf_work.specs.Source.{IsSource, IsAccepted, scope_fault_of}
+use Rattle.luf_resolved.specs.Source.{IsSource, scope_fault_of}
+use Rattle.luf_work.specs.Source.{IsAccepted}
 use Rattle.luf_work.specs.Text.{IsJoined, nothing, alone, apart, spaced, hash_text}
 use Rattle.luf_work.specs.declared.refusal.Refusal.{Refusal}
 use Rattle.luf_work.specs.declared.refusal.Refusal.TheVariants.{TooLarge, Lexical, Syntax, TooDeep, Scope, Chunk as BadChunk, ResultTooLarge, Memory}

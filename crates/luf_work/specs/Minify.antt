@@ -1,23 +1,11 @@
 -- What `minify` writes, accepts and refuses. Our own rules.
-use Rattle.std.specs.Prelude.{◌≡◌, ℕ, ◌<◌, ◌≤◌, List, ◌++◌, length}
-use Rattle.luf_lex.specs.Tokens.{toks_of, spellings_of}
-use Rattle.luf_lex.specs.declared.token.Piece.{Piece}
-use Rattle.luf_tree.specs.declared.tree.Chunk.{Chunk}
+use Rattle.std.specs.Prelude.{ℕ, ◌<◌, ◌≤◌, List, length}
+use Rattle.luf_min.specs.Minified.{IsMinified}
 use Rattle.luf_work.specs.Limits.{text_limit}
 use Rattle.luf_work.specs.Refusals.{IsSourceRefusal}
-use Rattle.luf_work.specs.Source.{IsSource, IsAccepted}
-use Rattle.luf_work.specs.Text.{IsJoined, hash_text}
+use Rattle.luf_work.specs.Source.{IsAccepted}
 use Rattle.luf_work.specs.declared.refusal.Refusal.{Refusal}
 use Rattle.luf_work.specs.declared.refusal.Refusal.TheVariants.{ResultTooLarge}
-
--- the minified text of a source: its `#` line, and its tokens in order, with the fewest spaces
-pub record IsMinified (source text : List ℕ) : Type 0 where
-  pub pieces : List Piece
-  pub chunk : Chunk
-  pub is : IsSource source pieces chunk
-  pub tokens : List ℕ
-  pub joined : IsJoined (spellings_of source pieces) tokens
-  pub text_is : text ≡ hash_text source pieces ++ tokens
 
 -- what `minify` accepts: what every job accepts, with a minified text within its limit of 4 MiB
 pub record IsMinifyAccepted (source : List ℕ) : Type 0 where
@@ -36,14 +24,3 @@ pub record HasLargeText (source : List ℕ) : Type 0 where
 abbrev pub IsMinifyRefusal : List ℕ → Refusal → Type 0
 IsMinifyRefusal source ResultTooLarge = IsAccepted source × HasLargeText source
 IsMinifyRefusal source refusal = IsSourceRefusal source refusal
-
--- the text of a source has the same `#` line, and the same tokens in the same order, and so the same tree
-pub record SameTokens (source text : List ℕ) : Type 0 where
-  pub pieces : List Piece
-  pub others : List Piece
-  pub chunk : Chunk
-  pub is : IsSource source pieces chunk
-  pub same : IsSource text others chunk
-  pub toks : toks_of others ≡ toks_of pieces
-  pub spellings : spellings_of text others ≡ spellings_of source pieces
-  pub hash : hash_text text others ≡ hash_text source pieces

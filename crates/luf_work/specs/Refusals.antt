@@ -10,7 +10,7 @@ use Rattle.luf_parse.specs.Cause.{HasNoTree}
 use Rattle.luf_scope.specs.declared.fault.ScopeWhat.{ScopeWhat}
 use Rattle.luf_tree.specs.declared.tree.Chunk.{Chunk}
 use Rattle.luf_work.specs.Limits.{source_limit}
-use Rattle.luf_work.specs.Source.{IsSource, scope_fault_of}
+use Rattle.luf_resolved.specs.Source.{IsSource, scope_fault_of}
 use Rattle.luf_work.specs.declared.refusal.Refusal.{Refusal}
 use Rattle.luf_work.specs.declared.refusal.Refusal.TheVariants.{TooLarge, Lexical, Syntax, TooDeep, Scope, Chunk as BadChunk, ResultTooLarge, Memory}
 

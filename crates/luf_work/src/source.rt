@@ -7,7 +7,7 @@ ghost use Rattle.luf_scope.specs.Links.{spelling_in, occurrences_of};
 ghost use Rattle.luf_work.specs.Limits.{source_limit};
 ghost use Rattle.luf_work.specs.Refusals.{start_of, IsSourceRefusal};
 ghost use Rattle.luf_tree.specs.declared.tree.Chunk.{Chunk as Tree};
-ghost use Rattle.luf_work.specs.Source.{IsSource, scope_fault_of};
+ghost use Rattle.luf_resolved.specs.Source.{IsSource, scope_fault_of};
 
 use crate::{Refusal, SOURCE_LIMIT};
 use luf_goto::labels;

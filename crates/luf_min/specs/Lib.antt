@@ -1,0 +1,3 @@
+pub mod Minified
+pub mod MinifiedLaws
+pub mod Text

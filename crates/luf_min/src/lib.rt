@@ -1,0 +1,6 @@
+//! The minified text of a source.
+#![tactic(auto)]
+
+mod laws;
+
+pub use laws::{minified_exists, minified_is_same, one_minified};
