@@ -1,8 +1,9 @@
 -- The commands: the words that mean each, and what it accepts, writes and refuses. Our own rules.
 use Rattle.std.specs.Prelude.{◌≡◌, ℕ, ◌≤◌, List, [], ◌∷◌, length, codes}
+use Rattle.luf_min.specs.Minified.{IsMinified}
 use Rattle.luf_work.specs.Limits.{source_limit, text_limit}
 use Rattle.luf_work.specs.List.{IsListing, IsListAccepted, IsListRefusal}
-use Rattle.luf_work.specs.Minify.{IsMinified, IsMinifyAccepted, IsMinifyRefusal}
+use Rattle.luf_work.specs.Minify.{IsMinifyAccepted, IsMinifyRefusal}
 use Rattle.luf_work.specs.Refusals.{IsSourceRefusal}
 use Rattle.luf_work.specs.Source.{IsAccepted}
 use Rattle.luf_work.specs.declared.refusal.Refusal.{Refusal}

@@ -1,7 +1,7 @@
 //! What a run is to write, before any of it is written.
 ghost use Rattle.std.specs.Prelude.{◌≡◌, ◌≢◌, ◌⊎◌, ◌++◌, ℕ, List, [], map, string_bytes, Some, Ok, Err, IfOk, IfErr, OnOk, OnErr, IsErrOf};
 ghost use Rattle.luf_io.specs.Count.{Rose};
-ghost use Rattle.luf_work.specs.Minify.{SameTokens};
+ghost use Rattle.luf_work.specs.Minify.{KeepsProgram};
 ghost use Rattle.std.specs.Cow.{cow_str_bytes};
 ghost use Rattle.luafmt.specs.Command.{Mean, AreNoCommand, Accepts, Writes, Refuses};
 ghost use Rattle.luafmt.specs.Line.{line_of, refusal_line as spec_refusal_line};
@@ -59,8 +59,8 @@ pub(crate) fn prepare<I: Source>(
     input: &mut I,
 ) -> Result<Answer, Halt>
     ensures gives { IfOk result (IsOutcome (map string_bytes words.now) (I.left input.old)) }
-    ensures same_tokens { IfOk result (λ a. a.status ≡ Status.Done → Mean (map string_bytes words.now) Command.Minify
-        → (contents : List ℕ) × AreContents (I.left input.old) contents × SameTokens contents a.out) }
+    ensures keeps_program { IfOk result (λ a. a.status ≡ Status.Done → Mean (map string_bytes words.now) Command.Minify
+        → (contents : List ℕ) × AreContents (I.left input.old) contents × KeepsProgram contents a.out) }
     ensures accepted { IfOk result (λ a. (contents : List ℕ) (command : Meant) → I.left input.old ≡ Some contents
         → Accepts command contents → Mean (map string_bytes words.now) command → a.status ≡ Status.Done) }
     ensures calm { OnOk result (I.faults input.new ≡ I.faults input.old) }
@@ -88,7 +88,7 @@ pub(crate) fn prepare<I: Source>(
 fn answered(alloc: Global, command: Command, source: &[u8]) -> Result<Answer, Memory>
     ensures gives { IfOk result (λ a.
         (words : List (List ℕ)) → Mean words command → Gives words source.now a) }
-    ensures same_tokens { IfOk result (λ a. a.status ≡ Status.Done → command ≡ Command.Minify → SameTokens source.now a.out) }
+    ensures keeps_program { IfOk result (λ a. a.status ≡ Status.Done → command ≡ Command.Minify → KeepsProgram source.now a.out) }
     ensures accepted { IfOk result (λ a. Accepts command source.now → a.status ≡ Status.Done) }
 {
     let mut out = Vec::new(alloc);
@@ -105,7 +105,7 @@ fn answered(alloc: Global, command: Command, source: &[u8]) -> Result<Answer, Me
 // Appends what a command writes of a source.
 fn job(alloc: Global, command: Command, source: &[u8], into: &mut Vec<u8>) -> Result<(), Refusal>
     ensures ok { OnOk result ((text : List ℕ) × Writes command source.now text × (into.new.items ≡ into.old.items ++ text)
-        × (command ≡ Command.Minify → SameTokens source.now text)) }
+        × (command ≡ Command.Minify → KeepsProgram source.now text)) }
     ensures complete { Accepts command source.now → (result ≡ Ok tt) ⊎ (result ≡ Err Refusal.Memory) }
     ensures refused { IfErr result (λ refusal. refusal ≢ Refusal.Memory → Refuses command source.now refusal) }
 {

@@ -2,7 +2,7 @@
 ghost use Rattle.std.specs.Prelude.{◌≡◌, ◌≢◌, ◌⊎◌, ℕ, List, take, map, string_bytes, Some, OnOk, OnErr};
 ghost use Rattle.luf_io.specs.Count.{Rose};
 ghost use Rattle.luf_io.specs.Sink.{Appends};
-ghost use Rattle.luf_work.specs.Minify.{SameTokens};
+ghost use Rattle.luf_work.specs.Minify.{KeepsProgram};
 ghost use Rattle.luafmt.specs.Command.{Mean, AreNoCommand, Accepts};
 ghost use Rattle.luafmt.specs.Outcome.{Outcome, AreContents, IsOutcome, RanThrough};
 ghost use Rattle.luafmt.specs.declared.command.Command.{Command as Meant};
@@ -38,7 +38,7 @@ pub fn run<F: Files, I: Source, O: Sink, E: Sink>(
     // What `minify` writes has the tokens of the source.
     ensures text { result ≡ Status.Done → Mean (map string_bytes words.now) command.Minify → (contents : List ℕ) × (text : List ℕ)
         × AreContents (I.left input.old) contents
-        × SameTokens contents text
+        × KeepsProgram contents text
         × Appends (O.written out.old) text (O.written out.new) }
 
     // The words alone decide on `Usage`.

@@ -1,7 +1,4 @@
-pub mod FirstByte
 pub mod ListLemmas
-pub mod TokensCut
-pub mod TextAgain
-pub mod TextLemmas
+pub mod MinifyLemmas
 pub mod RefusalLemmas
 pub mod WantOfMemory

@@ -1,26 +1,29 @@
 -- When a source has a minified text, and which, and when it has a cause of a refusal, and which.
-use Rattle.std.proofs.Common.{◌≡◌, ◌≢◌, ◌⊎◌, inl, inr, ℕ, ◌<◌, ◌≤◌, Option, Some, None, List, Ok, Err, ◌++◌, codes, length, map, refl, sym, ap, ◌∙◌, subst, arith}
+use Rattle.std.proofs.Common.{◌≡◌, ◌≢◌, ◌⊎◌, inl, inr, ℕ, ◌<◌, ◌≤◌, Option, Some, None, List, Ok, Err, length, map, refl, sym, ap, ◌∙◌, subst, arith}
 use Rattle.std.specs.Prelude.{Result, IfErr, IsErrAnd, slice_get}
 use Rattle.std.specs.Option.{option_map, unwrap_or}
 use Rattle.std.proofs.lemmas.Option.{unwrap_or-slice_get, slice_get-map}
 use Rattle.luf_text.specs.Place.{place_in}
 use Rattle.luf_text.specs.declared.Span.{Span}
 use Rattle.luf_text.specs.declared.place.Place.{Place}
-use Rattle.luf_lex.specs.Tokens.{toks_of, spans_of, spellings_of}
+use Rattle.luf_lex.specs.Tokens.{toks_of, spans_of}
 use Rattle.luf_lex.specs.declared.fault.LexWhat.{LexWhat}
 use Rattle.luf_lex.specs.declared.token.Piece.{Piece}
 use Rattle.luf_lex.proofs.OneCut.{one_cut, cut_excludes_fault, one_fault}
 use Rattle.luf_tree.specs.declared.tree.Chunk.{Chunk}
 use Rattle.luf_tree.specs.Grammar.{IsChunk}
 use Rattle.luf_work.specs.Limits.{source_limit}
-use Rattle.luf_work.specs.Minify.{IsMinified, IsMinifyAccepted, HasLargeText, IsMinifyRefusal}
+use Rattle.luf_min.specs.Minified.{IsMinified}
+use Rattle.luf_min.proofs.OneMinified.{one_minified}
+use Rattle.luf_work.specs.Minify.{IsMinifyAccepted, HasLargeText, IsMinifyRefusal}
 use Rattle.luf_parse.proofs.OneTree.{one_tree}
 use Rattle.luf_scope.specs.declared.fault.ScopeBad.{ScopeBad}
 use Rattle.luf_scope.specs.declared.fault.ScopeWhat.{ScopeWhat}
 use Rattle.luf_work.specs.Refusals.{start_of, IsLexicalAt, HasNoTreeAt, HasScopeFaultAt, IsSourceRefusal, TellsNoTree, IsSameRefusal, AnswersRefusal}
 use Rattle.luf_resolved.specs.Source.{IsSource, scope_fault_of}
 use Rattle.luf_work.specs.Source.{IsAccepted}
-use Rattle.luf_work.specs.Text.{IsJoined, nothing, alone, apart, spaced, hash_text}
+use Rattle.luf_work.specs.inner.Read.{IsRead}
+use Rattle.luf_work.specs.declared.source.Accepted.{Accepted}
 use Rattle.luf_work.specs.declared.refusal.Refusal.{Refusal}
 use Rattle.luf_work.specs.declared.refusal.Refusal.TheVariants.{TooLarge, Lexical, Syntax, TooDeep, Scope, Chunk as BadChunk, ResultTooLarge, Memory}
 use Rattle.luf_work.proofs.WantOfMemory.{memory_or_other}
@@ -32,29 +35,15 @@ start_is source pieces token o e =
     ∙ ap (λ x. unwrap_or x (length source)) (sym (slice_get-map (λ (s : Span). s.from) (spans_of pieces) token))
     ∙ unwrap_or-slice_get (map (λ (s : Span). s.from) (spans_of pieces)) token (length source)
 
--- an accepted source, by its parts
-pub accepted_of : (source : List ℕ) (pieces : List Piece) → length source ≤ source_limit → ((chunk : Chunk) × IsSource source pieces chunk × (scope_fault_of source pieces chunk ≡ None)) → IsAccepted source
-accepted_of source pieces within h = record { within = within; pieces = pieces; chunk = h.0; is = h.1; scopes = h.2 }
-
--- the minified text of a source, by its parts
-pub minified_of : (source : List ℕ) (pieces : List Piece) (chunk : Chunk) (tokens : List ℕ) → IsSource source pieces chunk → IsJoined (spellings_of source pieces) tokens → IsMinified source (hash_text source pieces ++ tokens)
-minified_of source pieces chunk tokens is joined = record { pieces = pieces; chunk = chunk; is = is; tokens = tokens; joined = joined; text_is = refl }
-
--- spellings are joined in one way
-one_joined : {spellings : List (List ℕ)} {text other : List ℕ} → IsJoined spellings text → IsJoined spellings other → text ≡ other
-one_joined nothing nothing = refl
-one_joined alone alone = refl
-one_joined (apart {a} s j) (apart s' k) = ap (λ t. a ++ t) (one_joined j k)
-one_joined (apart s j) (spaced n k) = absurd (n s)
-one_joined (spaced n j) (apart s k) = absurd (n s)
-one_joined (spaced {a} n j) (spaced n' k) = ap (λ t. a ++ (codes " " ++ t)) (one_joined j k)
+-- an accepted source, as it was read
+pub accepted_of : (source : List ℕ) (a : Accepted) → length source ≤ source_limit → IsRead source a → IsAccepted source
+accepted_of source a within h = record { within = within; pieces = a.pieces; chunk = a.chunk; is = h.is; scopes = h.scopes }
 
 -- a source has one minified text at most
 pub one_text : (source text other : List ℕ) → IsMinified source text → IsMinified source other → text ≡ other
 one_text source text other h g =
     let same : h.pieces ≡ g.pieces = one_cut source h.pieces g.pieces h.is.cut g.is.cut in
-    let joined : IsJoined (spellings_of source g.pieces) h.tokens = subst (λ (ps : List Piece). IsJoined (spellings_of source ps) h.tokens) same h.joined in
-    h.text_is ∙ ap (λ (ps : List Piece). hash_text source ps ++ h.tokens) same ∙ ap (λ t. hash_text source g.pieces ++ t) (one_joined joined g.joined) ∙ sym g.text_is
+    one_minified source text other h g (one_tree (toks_of g.pieces) h.chunk g.chunk (subst (λ (ps : List Piece). IsChunk (toks_of ps) h.chunk) same h.is.tree) g.is.tree)
 
 -- ---- the causes of a refusal by every job
 
@@ -73,7 +62,7 @@ fault_no_tree : (source : List ℕ) (place : Place) (what : LexWhat) (place' : P
 fault_no_tree source place what place' h g = cut_excludes_fault source g.pieces h.at what g.cut h.fault
 
 -- a source has one cut and one tree, and so one first scope fault or none
-one_scope_fault : (source : List ℕ) (pieces others : List Piece) (chunk other : Chunk) → IsSource source pieces chunk → IsSource source others other → scope_fault_of source pieces chunk ≡ scope_fault_of source others other
+pub one_scope_fault : (source : List ℕ) (pieces others : List Piece) (chunk other : Chunk) → IsSource source pieces chunk → IsSource source others other → scope_fault_of source pieces chunk ≡ scope_fault_of source others other
 one_scope_fault source pieces others chunk other is is' =
     let same : pieces ≡ others = one_cut source pieces others is.cut is'.cut in
     ap (λ (ps : List Piece). scope_fault_of source ps chunk) same

@@ -4,4 +4,3 @@ pub mod List
 pub mod Minify
 pub mod Refusals
 pub mod Source
-pub mod Text

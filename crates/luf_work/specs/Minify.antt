@@ -1,6 +1,6 @@
 -- What `minify` writes, accepts and refuses. Our own rules.
 use Rattle.std.specs.Prelude.{ℕ, ◌<◌, ◌≤◌, List, length}
-use Rattle.luf_min.specs.Minified.{IsMinified}
+use Rattle.luf_min.specs.Minified.{IsMinified, IsSameProgram}
 use Rattle.luf_work.specs.Limits.{text_limit}
 use Rattle.luf_work.specs.Refusals.{IsSourceRefusal}
 use Rattle.luf_work.specs.Source.{IsAccepted}
@@ -24,3 +24,8 @@ pub record HasLargeText (source : List ℕ) : Type 0 where
 abbrev pub IsMinifyRefusal : List ℕ → Refusal → Type 0
 IsMinifyRefusal source ResultTooLarge = IsAccepted source × HasLargeText source
 IsMinifyRefusal source refusal = IsSourceRefusal source refusal
+
+-- what is written of a source keeps its program: the text is accepted by every job, and it is the same program
+pub record KeepsProgram (source text : List ℕ) : Type 0 where
+  pub accepted : IsAccepted text
+  pub same : IsSameProgram source text

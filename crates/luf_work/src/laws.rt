@@ -1,7 +1,8 @@
 // Laws of the minified text and of the causes of a refusal: a source has one of the two, and one only.
 ghost use Rattle.std.specs.Prelude.{◌≡◌, ℕ, List};
+ghost use Rattle.luf_min.specs.Minified.{IsMinified};
 ghost use Rattle.luf_work.specs.List.{IsListing, IsListAccepted, IsListRefusal};
-ghost use Rattle.luf_work.specs.Minify.{IsMinified, IsMinifyAccepted, IsMinifyRefusal};
+ghost use Rattle.luf_work.specs.Minify.{IsMinifyAccepted, IsMinifyRefusal};
 ghost use Rattle.luf_work.specs.Refusals.{IsSourceRefusal, IsSameRefusal};
 ghost use Rattle.luf_work.specs.Source.{IsAccepted};
 ghost use Rattle.luf_work.specs.declared.refusal.Refusal.{Refusal};

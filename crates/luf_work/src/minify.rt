@@ -1,18 +1,17 @@
-// `minify`: the tokens of a source with the fewest spaces.
-ghost use Rattle.std.specs.Prelude.{◌≡◌, ◌≢◌, ◌<◌, ◌≤◌, ◌↔◌, ◌⊎◌, ◌++◌, ℕ, List, length, take, Ok, Err, IfOk, IfErr, OnOk, OnErr, IsErrOf};
-ghost use Rattle.luf_lex.specs.Cut.{IsCut};
-ghost use Rattle.luf_lex.specs.Tokens.{spellings_of};
+// `minify`: the program of a source under its least names, with the fewest spaces.
+ghost use Rattle.std.specs.Prelude.{◌≡◌, ◌≢◌, ◌<◌, ◌≤◌, ◌↔◌, ◌⊎◌, ◌++◌, ℕ, List, length, Ok, Err, IfErr, OnOk, OnErr, IsErrOf};
+ghost use Rattle.luf_min.specs.Minified.{IsMinified};
 ghost use Rattle.luf_work.specs.Limits.{source_limit, text_limit};
-ghost use Rattle.luf_work.specs.Minify.{IsMinified, IsMinifyAccepted, IsMinifyRefusal, SameTokens};
+ghost use Rattle.luf_work.specs.Minify.{IsMinifyAccepted, IsMinifyRefusal, KeepsProgram};
 ghost use Rattle.luf_work.specs.Refusals.{AnswersRefusal};
-ghost use Rattle.luf_work.specs.Text.{IsJoined, hash_text};
+ghost use Rattle.luf_work.specs.inner.Read.{IsRead};
 ghost use Rattle.luf_work.specs.declared.refusal.Refusal.{Refusal as Cause};
 
-use crate::source::accepted;
-use crate::text::{write_hash_line, write_tokens};
+use crate::source::{Accepted, accepted};
 use crate::{Refusal, TEXT_LIMIT};
-use luf_lex::Cut;
+use luf_interf::names;
 use luf_memory::Memory;
+use luf_min::minify;
 use std::alloc::Global;
 
 /// Appends the minified text of a source. A source that `minify` accepts has `Ok` or `Memory`, and no other has `Ok`.
@@ -32,7 +31,7 @@ use std::alloc::Global;
 /// - `Memory`: no memory was found. It alone has no cause in the source.
 pub fn minify_bytes(alloc: Global, src: &[u8], into: &mut Vec<u8>) -> Result<(), Refusal>
     ensures accepted { OnOk result (IsMinifyAccepted src.now) }
-    ensures ok { OnOk result ((text : List ℕ) × IsMinified src.now text × SameTokens src.now text × (length text ≤ text_limit) × (into.new.items ≡ into.old.items ++ text)) }
+    ensures ok { OnOk result ((text : List ℕ) × IsMinified src.now text × KeepsProgram src.now text × (length text ≤ text_limit) × (into.new.items ≡ into.old.items ++ text)) }
     ensures complete { IsMinifyAccepted src.now → (result ≡ Ok tt) ⊎ (result ≡ Err Refusal.Memory) }
 
     ensures refused { IfErr result (λ refusal. refusal ≢ Refusal.Memory → IsMinifyRefusal src.now refusal) }
@@ -40,10 +39,9 @@ pub fn minify_bytes(alloc: Global, src: &[u8], into: &mut Vec<u8>) -> Result<(),
     ensures too_large { IsErrOf result Refusal.TooLarge ↔ (source_limit < length src.now) }
     ensures err { OnErr result (into.new.items ≡ into.old.items) }
 {
-    let pieces = accepted(alloc, src)?;
+    let source = accepted(alloc, src)?;
     let len = into.len();
-    if let Err(e) = write_text(src, &pieces, into) {
-        into.truncate(len);
+    if let Err(e) = write_text(alloc, src, &source, into) {
         return Err(Refusal::from(e));
     }
     if into.len() - len > TEXT_LIMIT {
@@ -53,14 +51,24 @@ pub fn minify_bytes(alloc: Global, src: &[u8], into: &mut Vec<u8>) -> Result<(),
     Ok(())
 }
 
-/// Appends the `#` line and the tokens. What an error leaves begins with what was there.
-fn write_text(src: &[u8], pieces: &Cut, into: &mut Vec<u8>) -> Result<(), Memory>
-    requires { IsCut src.now pieces.now }
-    ensures ok { OnOk result ((tokens : List ℕ) × IsJoined (spellings_of src.now pieces.now) tokens × (into.new.items ≡ into.old.items ++ (hash_text src.now pieces.now ++ tokens))) }
-    ensures err { OnErr result (take (length into.old.items) into.new.items ≡ into.old.items) }
+/// Appends the text under least names.
+fn write_text(
+    alloc: Global,
+    src: &[u8],
+    source: &Accepted,
+    into: &mut Vec<u8>,
+) -> Result<(), Memory>
+    requires { IsRead src.now source.now }
+    ensures ok { OnOk result ((text : List ℕ) × IsMinified src.now text × (into.new.items ≡ into.old.items ++ text)) }
+    ensures err { OnErr result (into.new.items ≡ into.old.items) }
 {
-    if let Err(e) = write_hash_line(src, pieces, into) {
-        return Err(e);
-    }
-    write_tokens(src, pieces, into)
+    let names = names(
+        alloc,
+        src,
+        &source.pieces,
+        &source.chunk,
+        &source.links,
+        &source.jumps,
+    )?;
+    minify(alloc, src, &source.pieces, &source.chunk, &names, into)
 }

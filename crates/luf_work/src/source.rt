@@ -1,28 +1,39 @@
 // What every job begins with: a source that is accepted, or why it is not.
-ghost use Rattle.std.specs.Prelude.{◌≡◌, ◌≢◌, ◌<◌, ◌≤◌, ◌↔◌, None, length, IfOk, IfErr, IsErrOf};
+ghost use Rattle.std.specs.Prelude.{◌≡◌, ◌≢◌, ◌<◌, ◌≤◌, ◌↔◌, Some, None, length, IfOk, IfErr, IsErrOf};
 ghost use Rattle.luf_text.specs.Place.{place_in};
 ghost use Rattle.luf_lex.specs.Cut.{IsCut};
-ghost use Rattle.luf_scope.specs.Fault.{first_fault, name_faults, jump_faults};
-ghost use Rattle.luf_scope.specs.Links.{spelling_in, occurrences_of};
+ghost use Rattle.luf_lex.specs.Tokens.{toks_of};
+ghost use Rattle.luf_scope.specs.Fault.{first_of};
+ghost use Rattle.luf_scope.specs.Links.{spelling_in, occurrences_of, AreLinks};
+ghost use Rattle.luf_goto.specs.Jumps.{AreJumps};
 ghost use Rattle.luf_work.specs.Limits.{source_limit};
 ghost use Rattle.luf_work.specs.Refusals.{start_of, IsSourceRefusal};
-ghost use Rattle.luf_tree.specs.declared.tree.Chunk.{Chunk as Tree};
 ghost use Rattle.luf_resolved.specs.Source.{IsSource, scope_fault_of};
+ghost use Rattle.luf_work.specs.inner.Read.{IsRead, AreFoundNames, AreFoundJumps};
 
 use crate::{Refusal, SOURCE_LIMIT};
-use luf_goto::labels;
+use luf_goto::{Jumps, labels};
 use luf_lex::{Cut, LexErr, cut};
 use luf_memory::Memory;
 use luf_parse::{ParseErr, parse};
-use luf_scope::{ScopeBad, ScopeErr, first_of, resolve};
+use luf_scope::{Links, ScopeBad, ScopeErr, first_of, resolve};
 use luf_text::{Place, place_of};
 use luf_tree::Chunk;
 use std::alloc::Global;
 
-/// The pieces of a source that every job accepts, or the first cause for which it is refused.
-pub(crate) fn accepted(alloc: Global, src: &[u8]) -> Result<Cut, Refusal>
+/// A source that every job accepts: its pieces, its tree, and what its names and labels are.
+#[derive(Drop)]
+pub(crate) struct Accepted {
+    pub pieces: Cut,
+    pub chunk: Chunk,
+    pub links: Links,
+    pub jumps: Jumps,
+}
+
+/// A source that every job accepts, or the first cause for which it is refused.
+pub(crate) fn accepted(alloc: Global, src: &[u8]) -> Result<Accepted, Refusal>
     ensures within { IfOk result (λ _. length src.now ≤ source_limit) }
-    ensures ok { IfOk result (λ pieces. (chunk : Tree) × IsSource src.now pieces chunk × (scope_fault_of src.now pieces chunk ≡ None)) }
+    ensures ok { IfOk result (λ a. IsRead src.now a) }
     ensures refused { IfErr result (λ refusal. refusal ≢ Refusal.Memory → IsSourceRefusal src.now refusal) }
     ensures too_large { IsErrOf result Refusal.TooLarge ↔ (source_limit < length src.now) }
 {
@@ -31,8 +42,13 @@ pub(crate) fn accepted(alloc: Global, src: &[u8]) -> Result<Cut, Refusal>
     }
     let pieces = pieces_of(alloc, src)?;
     let chunk = tree_of(alloc, src, &pieces)?;
-    check_scopes(alloc, src, &pieces, &chunk)?;
-    Ok(pieces)
+    let meanings = meanings_of(alloc, src, &pieces, &chunk)?;
+    Ok(Accepted {
+        pieces,
+        chunk,
+        links: meanings.links,
+        jumps: meanings.jumps,
+    })
 }
 
 /// The pieces of a source, or the place of its lexical fault.
@@ -67,52 +83,79 @@ fn tree_of(alloc: Global, src: &[u8], pieces: &Cut) -> Result<Chunk, Refusal>
     }
 }
 
-/// Looks for faults of names and jumps, and tells the first.
-fn check_scopes(alloc: Global, src: &[u8], pieces: &Cut, chunk: &Chunk) -> Result<(), Refusal>
+/// What the names and the labels of a source are.
+#[derive(Drop)]
+struct Meanings {
+    links: Links,
+    jumps: Jumps,
+}
+
+/// What the names and the labels of a source are, or the place of its first scope fault.
+fn meanings_of(
+    alloc: Global,
+    src: &[u8],
+    pieces: &Cut,
+    chunk: &Chunk,
+) -> Result<Meanings, Refusal>
     requires within { length src.now ≤ source_limit }
     requires source { IsSource src.now pieces.now chunk.now }
+    ensures links { IfOk result (λ m. AreLinks (spelling_in src.now pieces.now) (occurrences_of chunk.now) (length (toks_of pieces.now)) m.links) }
+    ensures jumps { IfOk result (λ m. AreJumps (spelling_in src.now pieces.now) (occurrences_of chunk.now) m.jumps) }
     ensures ok { IfOk result (λ _. scope_fault_of src.now pieces.now chunk.now ≡ None) }
     ensures refused { IfErr result (λ refusal. refusal ≢ Refusal.Memory → IsSourceRefusal src.now refusal) }
     ensures within { ¬ IsErrOf result Refusal.TooLarge }
 {
-    let name = name_fault(alloc, src, pieces, chunk)?;
-    let jump = jump_fault(alloc, src, pieces, chunk)?;
-    match first_of(name, jump) {
-        None => Ok(()),
-        Some(bad) => Err(Refusal::Scope(place_of_token(src, pieces, bad.token), bad.what)),
+    let names = names_of(alloc, src, pieces, chunk)?;
+    let jumps = jumps_of(alloc, src, pieces, chunk)?;
+    let bad = match (names, jumps) {
+        (Ok(links), Ok(jumps)) => return Ok(Meanings { links, jumps }),
+        (Ok(_), Err(jump)) => jump,
+        (Err(name), Ok(_)) => name,
+        (Err(name), Err(jump)) => first_of_two(name, jump),
+    };
+    Err(Refusal::Scope(place_of_token(src, pieces, bad.token), bad.what))
+}
+
+/// The first of two faults.
+fn first_of_two(name: ScopeBad, jump: ScopeBad) -> ScopeBad
+    ensures { first_of (Some name) (Some jump) ≡ Some result }
+{
+    match first_of(Some(name), Some(jump)) {
+        Some(bad) => bad,
+        None => name,
     }
 }
 
-/// The first fault of names.
-fn name_fault(
+/// What each token is to the names, or the first fault of names.
+fn names_of(
     alloc: Global,
     src: &[u8],
     pieces: &Cut,
     chunk: &Chunk,
-) -> Result<Option<ScopeBad>, Memory>
+) -> Result<Result<Links, ScopeBad>, Memory>
     requires { IsSource src.now pieces.now chunk.now }
-    ensures { IfOk result (λ bad. bad ≡ first_fault (name_faults (spelling_in src.now pieces.now) (occurrences_of chunk.now))) }
+    ensures { IfOk result (λ found. AreFoundNames src.now pieces.now chunk.now found) }
 {
     match resolve(alloc, src, pieces, chunk) {
-        Ok(_) => Ok(None),
-        Err(ScopeErr::Bad(bad)) => Ok(Some(bad)),
+        Ok(links) => Ok(Ok(links)),
+        Err(ScopeErr::Bad(bad)) => Ok(Err(bad)),
         Err(ScopeErr::Memory) => Err(Memory),
     }
 }
 
-/// The first fault of jumps.
-fn jump_fault(
+/// What each token is to the labels, or the first fault of jumps.
+fn jumps_of(
     alloc: Global,
     src: &[u8],
     pieces: &Cut,
     chunk: &Chunk,
-) -> Result<Option<ScopeBad>, Memory>
+) -> Result<Result<Jumps, ScopeBad>, Memory>
     requires { IsSource src.now pieces.now chunk.now }
-    ensures { IfOk result (λ bad. bad ≡ first_fault (jump_faults (spelling_in src.now pieces.now) (occurrences_of chunk.now))) }
+    ensures { IfOk result (λ found. AreFoundJumps src.now pieces.now chunk.now found) }
 {
     match labels(alloc, src, pieces, chunk) {
-        Ok(_) => Ok(None),
-        Err(ScopeErr::Bad(bad)) => Ok(Some(bad)),
+        Ok(jumps) => Ok(Ok(jumps)),
+        Err(ScopeErr::Bad(bad)) => Ok(Err(bad)),
         Err(ScopeErr::Memory) => Err(Memory),
     }
 }
