@@ -14,12 +14,12 @@ fn minifies(rt: HostRuntime) -> Result<(), Fail> {
     let table: [(&[u8], &[u8]); 14] = [
         (b"", b"> "),
         (b"-- nothing\n", b"> "),
-        (b"local  x = 1 -- c\nreturn x", b"> local x=1 return x"),
-        (b"f ( ) ; g{}", b"> f();g{}"),
+        (b"local  x = 1 -- c\nreturn x", b"> local a=1 return a"),
+        (b"f ( ) ; g{}", b"> f()g{}"),
         (b"return - -x", b"> return- -x"),
         (b"return 1 ..2", b"> return 1 ..2"),
         (b"return a .. .5 .. b", b"> return a.. .5 ..b"),
-        (b"local x <const> = 1", b"> local x<const> =1"),
+        (b"local x <const> = 1", b"> local a<const> =1"),
         (b"a[ [[x]] ]=1", b"> a[ [[x]]]=1"),
         (b" x = # y", b"> x=#y"),
         (

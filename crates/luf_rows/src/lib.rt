@@ -14,6 +14,8 @@ mod jobs;
 #[cfg(test)]
 mod lexis;
 #[cfg(test)]
+mod minified;
+#[cfg(test)]
 mod numerals;
 #[cfg(test)]
 mod outside;
