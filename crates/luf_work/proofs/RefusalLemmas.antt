@@ -23,7 +23,7 @@ use Rattle.luf_work.specs.Refusals.{start_of, IsLexicalAt, HasNoTreeAt, HasScope
 use Rattle.luf_resolved.specs.Source.{IsSource, scope_fault_of}
 use Rattle.luf_work.specs.Source.{IsAccepted}
 use Rattle.luf_work.specs.inner.Read.{IsRead}
-use Rattle.luf_work.specs.declared.source.Accepted.{Accepted}
+use Rattle.luf_work.specs.declared.source.ReadSource.{ReadSource}
 use Rattle.luf_work.specs.declared.refusal.Refusal.{Refusal}
 use Rattle.luf_work.specs.declared.refusal.Refusal.TheVariants.{TooLarge, Lexical, Syntax, TooDeep, Scope, Chunk as BadChunk, ResultTooLarge, Memory}
 use Rattle.luf_work.proofs.WantOfMemory.{memory_or_other}
@@ -36,7 +36,7 @@ start_is source pieces token o e =
     ∙ unwrap_or-slice_get (map (λ (s : Span). s.from) (spans_of pieces)) token (length source)
 
 -- an accepted source, as it was read
-pub accepted_of : (source : List ℕ) (a : Accepted) → length source ≤ source_limit → IsRead source a → IsAccepted source
+pub accepted_of : (source : List ℕ) (a : ReadSource) → length source ≤ source_limit → IsRead source a → IsAccepted source
 accepted_of source a within h = record { within = within; pieces = a.pieces; chunk = a.chunk; is = h.is; scopes = h.scopes }
 
 -- a source has one minified text at most

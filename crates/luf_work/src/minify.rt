@@ -7,7 +7,7 @@ ghost use Rattle.luf_work.specs.Refusals.{AnswersRefusal};
 ghost use Rattle.luf_work.specs.inner.Read.{IsRead};
 ghost use Rattle.luf_work.specs.declared.refusal.Refusal.{Refusal as Cause};
 
-use crate::source::{Accepted, accepted};
+use crate::source::{ReadSource, accepted};
 use crate::{Refusal, TEXT_LIMIT};
 use luf_interf::names;
 use luf_memory::Memory;
@@ -55,7 +55,7 @@ pub fn minify_bytes(alloc: Global, src: &[u8], into: &mut Vec<u8>) -> Result<(),
 fn write_text(
     alloc: Global,
     src: &[u8],
-    source: &Accepted,
+    source: &ReadSource,
     into: &mut Vec<u8>,
 ) -> Result<(), Memory>
     requires { IsRead src.now source.now }

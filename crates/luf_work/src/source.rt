@@ -23,7 +23,7 @@ use std::alloc::Global;
 
 /// A source that every job accepts: its pieces, its tree, and what its names and labels are.
 #[derive(Drop)]
-pub(crate) struct Accepted {
+pub(crate) struct ReadSource {
     pub pieces: Cut,
     pub chunk: Chunk,
     pub links: Links,
@@ -31,7 +31,7 @@ pub(crate) struct Accepted {
 }
 
 /// A source that every job accepts, or the first cause for which it is refused.
-pub(crate) fn accepted(alloc: Global, src: &[u8]) -> Result<Accepted, Refusal>
+pub(crate) fn accepted(alloc: Global, src: &[u8]) -> Result<ReadSource, Refusal>
     ensures within { IfOk result (λ _. length src.now ≤ source_limit) }
     ensures ok { IfOk result (λ a. IsRead src.now a) }
     ensures refused { IfErr result (λ refusal. refusal ≢ Refusal.Memory → IsSourceRefusal src.now refusal) }
@@ -43,7 +43,7 @@ pub(crate) fn accepted(alloc: Global, src: &[u8]) -> Result<Accepted, Refusal>
     let pieces = pieces_of(alloc, src)?;
     let chunk = tree_of(alloc, src, &pieces)?;
     let meanings = meanings_of(alloc, src, &pieces, &chunk)?;
-    Ok(Accepted {
+    Ok(ReadSource {
         pieces,
         chunk,
         links: meanings.links,

@@ -9,7 +9,7 @@ use Rattle.luf_scope.specs.declared.fault.ScopeBad.{ScopeBad}
 use Rattle.luf_scope.specs.declared.jump.JumpRole.{JumpRole}
 use Rattle.luf_goto.specs.Jumps.{AreJumps}
 use Rattle.luf_resolved.specs.Source.{IsSource, scope_fault_of}
-use Rattle.luf_work.specs.declared.source.Accepted.{Accepted}
+use Rattle.luf_work.specs.declared.source.ReadSource.{ReadSource}
 
 module _ (source : List ℕ) (pieces : List Piece) (chunk : Chunk) where
   abbrev pub AreFoundNames : Result NameTable ScopeBad → Type 0
@@ -23,7 +23,7 @@ module _ (source : List ℕ) (pieces : List Piece) (chunk : Chunk) where
   AreFoundJumps (Err bad) = first_fault (jump_faults (spelling_in source pieces) (occurrences_of chunk)) ≡ Some bad
 
 -- an accepted source as it was read
-pub record IsRead (source : List ℕ) (a : Accepted) : Type 0 where
+pub record IsRead (source : List ℕ) (a : ReadSource) : Type 0 where
   pub is : IsSource source a.pieces a.chunk
   pub scopes : scope_fault_of source a.pieces a.chunk ≡ None
   pub links : AreLinks (spelling_in source a.pieces) (occurrences_of a.chunk) (length (toks_of a.pieces)) a.links
