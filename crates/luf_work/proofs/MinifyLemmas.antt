@@ -4,7 +4,7 @@ use Rattle.luf_resolved.specs.Source.{IsSource, scope_fault_of}
 use Rattle.luf_lex.specs.declared.token.Piece.{Piece}
 use Rattle.luf_tree.specs.declared.tree.Chunk.{Chunk}
 use Rattle.luf_min.specs.Minified.{IsMinified, IsSameProgram}
-use Rattle.luf_min.proofs.MinifiedIsSame.{minified_is_same}
+use Rattle.luf_min.proofs.Same.{minified_is_same}
 use Rattle.luf_work.specs.Limits.{text_limit}
 use Rattle.luf_work.specs.Minify.{KeepsProgram}
 use Rattle.luf_work.specs.Source.{IsAccepted}

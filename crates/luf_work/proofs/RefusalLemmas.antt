@@ -14,7 +14,7 @@ use Rattle.luf_tree.specs.declared.tree.Chunk.{Chunk}
 use Rattle.luf_tree.specs.Grammar.{IsChunk}
 use Rattle.luf_work.specs.Limits.{source_limit}
 use Rattle.luf_min.specs.Minified.{IsMinified}
-use Rattle.luf_min.proofs.OneMinified.{one_minified}
+use Rattle.luf_min.proofs.OneText.{one_minified}
 use Rattle.luf_work.specs.Minify.{IsMinifyAccepted, HasLargeText, IsMinifyRefusal}
 use Rattle.luf_parse.proofs.OneTree.{one_tree}
 use Rattle.luf_scope.specs.declared.fault.ScopeBad.{ScopeBad}
