@@ -1,6 +1,6 @@
 -- The new words: at each token that has a new name, a name of the order that is not barred; elsewhere what stood there.
 -- Only names get one.
-use Rattle.std.proofs.Common.{◌≡◌, ℕ, zero, suc, ◌+◌, ◌⊎◌, inl, inr, Bool, true, false, cond, Option, Some, None, List, [], ◌∷◌, slice_get, nat_eq, length, refl, sym, ap, subst, ◌∙◌, zero-add, arith, ⊎_elim, if◌then◌else◌}
+use Rattle.std.proofs.Common.{◌≡◌, ℕ, suc, ◌+◌, ◌⊎◌, inl, inr, Bool, true, false, cond, Option, Some, None, List, [], ◌∷◌, slice_get, nat_eq, length, refl, sym, ap, subst, ◌∙◌, zero-add, arith, ⊎_elim, if◌then◌else◌}
 use Rattle.std.specs.Prelude.{unwrap_or}
 use Rattle.std.specs.List.{list_any, position_from}
 use Rattle.std.specs.Option.{option_map_or}
@@ -25,8 +25,8 @@ use Rattle.luf_scope.specs.Role.{is_variable, is_field, declared_at, declaration
 use Rattle.luf_scope.specs.Order.{place, behind, is_label, AreOrdered}
 use Rattle.luf_scope.proofs.Places.{block_lies}
 use Rattle.luf_resolved.specs.Resolved.{meanings}
-use Rattle.luf_interf.specs.Interference.{IsLocal, IsLabel}
-use Rattle.luf_interf.specs.NewNames.{Naming, is_fixed, AreLeast, AreNames, new_name, new_word, renamed, name_of_local, name_of_label, name_in, new_name_at}
+use Rattle.luf_interf.specs.Interference.{IsLabel}
+use Rattle.luf_interf.specs.NewNames.{Naming, is_fixed, AreLeast, AreNames, new_word, renamed, name_of_label, name_in, new_name_at}
 use Rattle.luf_interf.specs.RenamingLaws.{said_in, NamesAgree}
 use Rattle.luf_interf.proofs.Among.{Among, among_at, any_none, given_by}
 use Rattle.luf_interf.proofs.Last.{first_none}
