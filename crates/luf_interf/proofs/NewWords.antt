@@ -223,7 +223,7 @@ module _ (a e c : ℕ) (os : List Occurrence) (lies : AreOrdered a e c os) (spel
       let fixed : is_fixed v ≡ true = ⊎_elim (λ there. absurd (other (subst (λ n. At toks n tok.Name) (eqb-true v.token t finds.2) there))) (λ is. is) (named_or_fixed toks spelled from.0 v from.2 (named from.0 from.1)) in
       λ i. if ((λ k. option_map_or is_fixed (finds.1 k) true) ∙ fixed) i then None else Some (naming n)
 
-  none_other : new_name_at spelled os naming label_naming t ≡ None
+  pub none_other : new_name_at spelled os naming label_naming t ≡ None
   none_other =
       (λ i. name_in spelled os naming label_naming (declaration (declared_at (locals_of spelled os) t) (cond (no_variable i) (reference (meaning (locals_of spelled os) t (spelled t))) (cond (no_field i) role.Field role.Plain))) (label_role (no_label i) (no_goto i)))
       ∙ declared_fixed (declared_at (locals_of spelled os) t) (found (λ v. nat_eq v.token t) (locals_of spelled os))
