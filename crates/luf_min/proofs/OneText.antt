@@ -1,5 +1,5 @@
 -- With one tree a source has one minified text, and each source has one.
-use Rattle.std.proofs.Common.{◌≡◌, ℕ, Bool, true, false, None, List, [], ◌∷◌, ◌++◌, codes, map, refl, sym, ap, subst, ◌∙◌}
+use Rattle.std.proofs.Common.{◌≡◌, ℕ, Bool, true, false, List, [], ◌∷◌, ◌++◌, codes, map, refl, sym, ap, subst, ◌∙◌}
 use Rattle.luf_lex.specs.Spelling.{Spells}
 use Rattle.luf_lex.specs.Tokens.{toks_of}
 use Rattle.luf_lex.specs.declared.token.Kind.TheVariants.{Token}

@@ -12,7 +12,7 @@ use Rattle.luf_lex.specs.declared.token.Kind.TheVariants.{Token}
 use Rattle.luf_lex.specs.declared.token.Piece.{Piece}
 use Rattle.luf_lex.proofs.PieceSpellings.{spelled_at as piece_at}
 use Rattle.luf_tree.specs.declared.tree.Chunk.{Chunk}
-use Rattle.luf_tree.specs.Grammar.{At, IsChunk}
+use Rattle.luf_tree.specs.Grammar.{IsChunk}
 use Rattle.luf_tree.specs.Level.{level_limit}
 use Rattle.luf_tree.specs.SyntaxOf.{syntax_of}
 use Rattle.luf_tree.proofs.TokenLaws.{chunk_no_hash, bracket_no_equal}

@@ -1,5 +1,5 @@
 -- Tokens with their spellings, and the words of the minified text: each is spelled as its token.
-use Rattle.std.proofs.Common.{◌≡◌, ℕ, zero, suc, ◌+◌, ◌<◌, ◌≤◌, ◌⊎◌, Bool, true, false, cond, ◌||◌, Option, Some, None, List, [], ◌∷◌, slice_get, get_or, length, map, refl, sym, ap, subst, ◌∙◌, zero-add, ne_eqb, arith, ⊎_elim}
+use Rattle.std.proofs.Common.{◌≡◌, ℕ, zero, suc, ◌+◌, ◌<◌, ◌≤◌, Bool, true, false, cond, ◌||◌, Option, Some, None, List, [], ◌∷◌, slice_get, get_or, length, map, refl, sym, ap, subst, ◌∙◌, zero-add, ne_eqb, arith, ⊎_elim}
 use Rattle.std.specs.Option.{option_map}
 use Rattle.std.proofs.lemmas.Bool.{false≢true}
 use Rattle.std.proofs.lemmas.List.{length-map}
