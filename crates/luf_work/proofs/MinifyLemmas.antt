@@ -1,5 +1,6 @@
 -- The minified text of a source, from what is written under its least names.
-use Rattle.std.proofs.Common.{◌≡◌, ℕ, ◌≤◌, None, List, length, ◌∙◌}
+use Rattle.std.proofs.Common.{◌≡◌, ℕ, ◌≤◌, None, List, Ok, Err, length, ◌∙◌}
+use Rattle.std.specs.Prelude.{Result, OnOk}
 use Rattle.luf_resolved.specs.Source.{IsSource, scope_fault_of}
 use Rattle.luf_lex.specs.declared.token.Piece.{Piece}
 use Rattle.luf_tree.specs.declared.tree.Chunk.{Chunk}
@@ -18,3 +19,8 @@ keeps_program source text a m fits =
       accepted = record { within = fits; pieces = same.others; chunk = same.other; is = same.read; scopes = same.no_fault };
       same = same;
     }
+
+-- what holds where a call was Ok, said otherwise
+pub said_otherwise : {A E P Q : Type 0} (r : Result A E) → (P → Q) → OnOk r P → OnOk r Q
+said_otherwise (Ok a) f h = f h
+said_otherwise (Err e) f h = tt

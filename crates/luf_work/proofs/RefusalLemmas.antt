@@ -17,12 +17,15 @@ use Rattle.luf_min.specs.Minified.{IsMinified}
 use Rattle.luf_min.proofs.OneText.{one_minified}
 use Rattle.luf_work.specs.Minify.{IsMinifyAccepted, HasLargeText, IsMinifyRefusal}
 use Rattle.luf_parse.proofs.OneTree.{one_tree}
+use Rattle.luf_scope.specs.Fault.{first_fault, first_of, jump_faults}
+use Rattle.luf_scope.specs.Links.{NameTable, spelling_in, occurrences_of}
+use Rattle.luf_scope.specs.declared.jump.JumpRole.{JumpRole}
 use Rattle.luf_scope.specs.declared.fault.ScopeBad.{ScopeBad}
 use Rattle.luf_scope.specs.declared.fault.ScopeWhat.{ScopeWhat}
 use Rattle.luf_work.specs.Refusals.{start_of, IsLexicalAt, HasNoTreeAt, HasScopeFaultAt, IsSourceRefusal, TellsNoTree, IsSameRefusal, AnswersRefusal}
 use Rattle.luf_resolved.specs.Source.{IsSource, scope_fault_of}
 use Rattle.luf_work.specs.Source.{IsAccepted}
-use Rattle.luf_work.specs.inner.Read.{IsRead}
+use Rattle.luf_work.specs.inner.Read.{IsRead, AreFoundNames, AreFoundJumps}
 use Rattle.luf_work.specs.declared.source.ReadSource.{ReadSource}
 use Rattle.luf_work.specs.declared.refusal.Refusal.{Refusal}
 use Rattle.luf_work.specs.declared.refusal.Refusal.TheVariants.{TooLarge, Lexical, Syntax, TooDeep, Scope, Chunk as BadChunk, ResultTooLarge, Memory}
@@ -38,6 +41,28 @@ start_is source pieces token o e =
 -- an accepted source, as it was read
 pub accepted_of : (source : List ℕ) (a : ReadSource) → length source ≤ source_limit → IsRead source a → IsAccepted source
 accepted_of source a within h = record { within = within; pieces = a.pieces; chunk = a.chunk; is = h.is; scopes = h.scopes }
+
+-- the first fault of a source, where only jumps have one, only names, or both
+pub fault_of_jumps : (source : List ℕ) (pieces : List Piece) (chunk : Chunk) {links : NameTable} {names : Result NameTable ScopeBad} {jumps : Result (List (ℕ × JumpRole)) ScopeBad} {jump bad : ScopeBad} → AreFoundNames source pieces chunk names
+    → AreFoundJumps source pieces chunk jumps → names ≡ Ok links → jumps ≡ Err jump → bad ≡ jump → scope_fault_of source pieces chunk ≡ Some bad
+fault_of_jumps source pieces chunk {links} {names} {jumps} {jump} {bad} n j named jumped is =
+    let none = (subst (AreFoundNames source pieces chunk) named n).1 in
+    let some = subst (AreFoundJumps source pieces chunk) jumped j in
+    ap (λ o. first_of o (first_fault (jump_faults (spelling_in source pieces) (occurrences_of chunk)))) none ∙ some ∙ ap Some (sym is)
+
+pub fault_of_names : (source : List ℕ) (pieces : List Piece) (chunk : Chunk) {marks : List (ℕ × JumpRole)} {names : Result NameTable ScopeBad} {jumps : Result (List (ℕ × JumpRole)) ScopeBad} {name bad : ScopeBad} → AreFoundNames source pieces chunk names
+    → AreFoundJumps source pieces chunk jumps → names ≡ Err name → jumps ≡ Ok marks → bad ≡ name → scope_fault_of source pieces chunk ≡ Some bad
+fault_of_names source pieces chunk {marks} {names} {jumps} {name} {bad} n j named jumped is =
+    let some = subst (AreFoundNames source pieces chunk) named n in
+    let none = (subst (AreFoundJumps source pieces chunk) jumped j).1 in
+    ap (λ o. first_of o (first_fault (jump_faults (spelling_in source pieces) (occurrences_of chunk)))) some ∙ ap (first_of (Some name)) none ∙ ap Some (sym is)
+
+pub fault_of_both : (source : List ℕ) (pieces : List Piece) (chunk : Chunk) {names : Result NameTable ScopeBad} {jumps : Result (List (ℕ × JumpRole)) ScopeBad} {name jump bad first : ScopeBad} → AreFoundNames source pieces chunk names
+    → AreFoundJumps source pieces chunk jumps → names ≡ Err name → jumps ≡ Err jump → bad ≡ first → first_of (Some name) (Some jump) ≡ Some first → scope_fault_of source pieces chunk ≡ Some bad
+fault_of_both source pieces chunk {names} {jumps} {name} {jump} {bad} {first} n j named jumped is told =
+    let some = subst (AreFoundNames source pieces chunk) named n in
+    let other = subst (AreFoundJumps source pieces chunk) jumped j in
+    ap (λ o. first_of o (first_fault (jump_faults (spelling_in source pieces) (occurrences_of chunk)))) some ∙ ap (first_of (Some name)) other ∙ told ∙ ap Some (sym is)
 
 -- a source has one minified text at most
 pub one_text : (source text other : List ℕ) → IsMinified source text → IsMinified source other → text ≡ other

@@ -50,6 +50,7 @@ pub returns-clause-exact : goal.returns-clause-exact
 returns-clause-exact c = λ refusal cause. absurd (accepted_not_refused c.args.src.now refusal (returns-clause-accepted c) cause)
 
 pub returns-clause-ok : goal.returns-clause-ok
+unfolding returns-clause-accepted
 returns-clause-ok c =
     let written = c.in_default.ensures.ok in
     let accepted = returns-clause-accepted c in (
