@@ -34,8 +34,8 @@ def run(command, text):
 
 
 def cause(message):
-    """The message of luac, without the name of the source and without lines."""
-    message = message.decode("utf-8", "replace").strip().removeprefix("luac5.4: ")
+    """The message of luac, without the name of the source, without lines and without the token that it stopped at."""
+    message = message.decode("utf-8", "replace").strip().removeprefix("luac5.4: ").partition(" near ")[0]
     return re.sub(r"(at )?line \d+", "line", re.sub(r"^stdin:\d+: ", "", message))
 
 
