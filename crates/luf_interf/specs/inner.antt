@@ -1,0 +1,2 @@
+-- What only this crate's own code cites.
+pub mod Maxima
