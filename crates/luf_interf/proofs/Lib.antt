@@ -15,3 +15,7 @@ pub mod Resolve
 mod NamesExamples
 pub mod Faults
 pub mod Exist
+pub mod Named
+pub mod Picked
+pub mod Rows
+pub mod Tables
