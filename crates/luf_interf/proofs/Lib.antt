@@ -1,5 +1,6 @@
 pub mod Among
 pub mod Last
+pub mod Above
 pub mod Tokens
 pub mod NewLocals
 pub mod Alike
@@ -15,3 +16,7 @@ mod NamesExamples
 pub mod Faults
 pub mod Exist
 pub mod NewWords
+pub mod Named
+pub mod Picked
+pub mod Rows
+pub mod Tables

@@ -1,0 +1,5 @@
+-- What only this crate's own code cites.
+pub mod Maxima
+pub mod LabelRows
+pub mod LabelNumbers
+pub mod LabelNames
