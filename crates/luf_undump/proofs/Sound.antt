@@ -151,11 +151,11 @@ number_reads limit bytes le =
 -- ---- sizes
 
 -- the groups in front, and the byte behind them
-record Grouped (bytes : List ℕ) (n : ℕ) : Type 0 where
-  low : AllByRecursion (λ group. group < 128) (take n bytes)
-  mark : (last : ℕ) (rest : List ℕ) → drop n bytes ≡ last ∷ rest → 128 ≤ last
+pub record Grouped (bytes : List ℕ) (n : ℕ) : Type 0 where
+  pub low : AllByRecursion (λ group. group < 128) (take n bytes)
+  pub mark : (last : ℕ) (rest : List ℕ) → drop n bytes ≡ last ∷ rest → 128 ≤ last
 
-grouped : (bytes : List ℕ) → Grouped bytes (prefix_len is_group bytes)
+pub grouped : (bytes : List ℕ) → Grouped bytes (prefix_len is_group bytes)
 grouped [] = record { low = tt; mark = λ last rest h. absurd cc }
 grouped (byte ∷ bytes) = by_test (nat_lt byte 128) refl (grouped bytes)
   where
@@ -367,7 +367,7 @@ module _ {A B : Type 0} {next : B → List ℕ} {Whole : List ℕ → B → Type
       andthen limit so_far bytes (count_at bytes) _ le (count_reads limit bytes le) (λ n count within is.
       listed_from so_far count n.1 n.0 f is within (λ front xs inside len are. k front xs inside are))
 
-function_reads : (levels : ℕ) (main : Option ℕ) (limit : ℕ) (bytes : List ℕ) → length bytes ≤ limit
+pub function_reads : (levels : ℕ) (main : Option ℕ) (limit : ℕ) (bytes : List ℕ) → length bytes ≤ limit
     → Reads behind (Writes (IsFunctionOf levels main)) limit [] bytes (function_at levels main bytes)
 unfolding function_at
 function_reads zero main limit bytes le = refuses limit [] bytes bytes Nested le
