@@ -7,5 +7,6 @@ pub mod OneAnswer
 pub mod Sound
 pub mod Told
 pub mod ToldFields
+pub mod ToldFunctions
 pub mod ToldParts
 pub mod Written

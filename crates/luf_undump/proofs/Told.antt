@@ -1,12 +1,10 @@
 -- What a part of the reader tells of any bytes: what it reads of them, or the field that is wrong, with what stands before it and
 -- how the part could go on there. Such parts join, one behind the other.
-use Rattle.std.proofs.Common.{◌≡◌, ℕ, zero, suc, ◌+◌, ◌<◌, ◌≤◌, List, [], ◌∷◌, ◌++◌, length, Result, Ok, Err, refl, sym, ap, ◌∙◌, subst, append_assoc, arith}
-use Rattle.std.proofs.lemmas.List.{append-nil}
-use Rattle.luf_undump.specs.FirstWrong.{AreBytes, AreGroups, IsField}
+use Rattle.std.proofs.Common.{◌≡◌, ℕ, zero, suc, ◌≤◌, List, [], ◌∷◌, ◌++◌, length, Result, Ok, Err, refl, sym, ap, ◌∙◌, subst, append_assoc}
+use Rattle.luf_undump.specs.FirstWrong.{AreBytes, AreGroups, HasSizeInFront}
 use Rattle.luf_undump.specs.Grammar.{IsCountOf}
 use Rattle.luf_undump.specs.Reading.{◌>>=◌, Wrong, wrong, many_at, skip_at}
-use Rattle.luf_undump.specs.declared.error.ChunkWhat.{ChunkWhat}
-use Rattle.luf_undump.specs.declared.error.ChunkWhat.TheVariants.{Short, Nested}
+use Rattle.luf_undump.specs.declared.error.ChunkWhat.TheVariants.{Short, BadSize, BadTag, Nested}
 
 -- a value and the bytes behind it, and the bytes behind what is skipped
 abbrev pub pair : {A : Type 0} → A → List ℕ → A × List ℕ
@@ -18,6 +16,10 @@ alone x rest = rest
 pub bytes_join : (front back : List ℕ) → AreBytes front → AreBytes back → AreBytes (front ++ back)
 bytes_join [] back are others = others
 bytes_join (byte ∷ front) back are others = (are.0, bytes_join front back are.1 others)
+
+-- behind these bytes a size is read
+abbrev pub Sized : {B : Type 0} → (List ℕ → Result B Wrong) → List ℕ → Type 0
+Sized {B} r front = (more : List ℕ) (y : B) → r (front ++ more) ≡ Ok y → HasSizeInFront more
 
 module _ {A B : Type 0} (form : A → List ℕ → B) where
   -- these bytes are read as this, whatever stands behind them
@@ -34,13 +36,14 @@ module _ {A B : Type 0} (form : A → List ℕ → B) where
   -- beside the reader stands one that may go a level deeper
   pub data Told (r deeper : List ℕ → Result B Wrong) (bytes : List ℕ) : Type 0 where
     read : (x : A) (front rest : List ℕ) → bytes ≡ front ++ rest → Takes r x front → Takes deeper x front → Told r deeper bytes
-    refused : (what : ChunkWhat) (front field rest : List ℕ) → bytes ≡ front ++ (field ++ rest) → IsField what field → Ends r front
-        → ((more : List ℕ) → r (front ++ (field ++ more)) ≡ wrong (field ++ more) what) → Told r deeper bytes
-    short : (front rest : List ℕ) → bytes ≡ front ++ rest → Ends r (front ++ rest)
+    tag : (byte : ℕ) (front rest : List ℕ) → bytes ≡ front ++ (byte ∷ rest) → Ends r (front ++ 0 ∷ []) → ((more : List ℕ) → r (front ++ (byte ∷ more)) ≡ wrong (byte ∷ more) BadTag)
+        → Told r deeper bytes
+    size : (groups : List ℕ) (last : ℕ) (front rest : List ℕ) → bytes ≡ front ++ ((groups ++ last ∷ []) ++ rest) → AreGroups groups → 128 ≤ last → Ends r front → Sized r front
+        → ((more : List ℕ) → r (front ++ ((groups ++ last ∷ []) ++ more)) ≡ wrong ((groups ++ last ∷ []) ++ more) BadSize) → Told r deeper bytes
+    cut : (front groups : List ℕ) → bytes ≡ front ++ groups → AreGroups groups → Ends r front → Sized r front → r (front ++ groups) ≡ wrong groups Short → Told r deeper bytes
+    short : (front rest : List ℕ) → bytes ≡ front ++ rest → ((others : List ℕ) → length others ≤ length rest → Ends r (front ++ others))
         → ((others : List ℕ) → length others ≤ length rest → r (front ++ others) ≡ wrong others Short) → Told r deeper bytes
-    cut : (front groups : List ℕ) → bytes ≡ front ++ groups → AreGroups groups → Ends r front
-        → ((others : List ℕ) → AreGroups others → r (front ++ others) ≡ wrong others Short) → Told r deeper bytes
-    nested : (n : ℕ) (front count rest : List ℕ) → bytes ≡ front ++ (count ++ rest) → IsCountOf count (suc n) → Ends r front → Ends deeper (front ++ count)
+    nested : (n : ℕ) (front count rest : List ℕ) → bytes ≡ front ++ (count ++ rest) → IsCountOf count (suc n) → Ends r front → Sized r front → Ends deeper (front ++ count)
         → ((more : List ℕ) → r (front ++ (count ++ more)) ≡ wrong more Nested) → Told r deeper bytes
 
   pub record Tells (r deeper : List ℕ → Result B Wrong) : Type 0 where
@@ -49,6 +52,16 @@ module _ {A B : Type 0} (form : A → List ℕ → B) where
     pub opens_deeper : Ends deeper []
 
 -- ---- behind bytes that are read
+
+sized_behind : {B : Type 0} (r s : List ℕ → Result B Wrong) (so_far front : List ℕ) → ((more : List ℕ) → r (so_far ++ more) ≡ s more) → Sized s front → Sized r (so_far ++ front)
+sized_behind r s so_far front same sized more y h = sized more y (sym (same (front ++ more)) ∙ sym (ap r (append_assoc so_far front more)) ∙ h)
+
+pub sized_then : {B D : Type 0} (r : List ℕ → Result B Wrong) (s : B → Result D Wrong) (front : List ℕ) → Sized r front → Sized (λ bytes. r bytes >>= s) front
+sized_then {B} r s front sized more y h = by_result (r (front ++ more)) refl h
+  where
+    by_result : (x : Result B Wrong) → r (front ++ more) ≡ x → (x >>= s) ≡ Ok y → HasSizeInFront more
+    by_result (Ok x) is goes = sized more x is
+    by_result (Err e) is goes = absurd cc
 
 module _ {A B : Type 0} {form : A → List ℕ → B} where
   pub ends_behind : {r s : List ℕ → Result B Wrong} (so_far front : List ℕ) → ((more : List ℕ) → r (so_far ++ more) ≡ s more) → Ends form s front → Ends form r (so_far ++ front)
@@ -63,27 +76,33 @@ module _ {A B : Type 0} {form : A → List ℕ → B} where
   pub behind : {r s deeper below : List ℕ → Result B Wrong} (so_far bytes rest : List ℕ) → bytes ≡ so_far ++ rest
       → ((more : List ℕ) → r (so_far ++ more) ≡ s more) → ((more : List ℕ) → deeper (so_far ++ more) ≡ below more)
       → Told form s below rest → Told form r deeper bytes
-  behind {r} {s} {deeper} {below} so_far bytes rest e same as_deep (read x front after whole takes goes) =
-      read x (so_far ++ front) after (e ∙ ap (λ b. so_far ++ b) whole ∙ sym (append_assoc so_far front after))
-      (λ more. ap r (append_assoc so_far front more) ∙ same (front ++ more) ∙ takes more)
-      (λ more. ap deeper (append_assoc so_far front more) ∙ as_deep (front ++ more) ∙ goes more)
-  behind {r} {s} so_far bytes rest e same as_deep (refused what front field after whole is ends stops) =
-      refused what (so_far ++ front) field after (e ∙ ap (λ b. so_far ++ b) whole ∙ sym (append_assoc so_far front (field ++ after))) is
-      (ends_behind so_far front same ends)
-      (λ more. ap r (append_assoc so_far front (field ++ more)) ∙ same (front ++ (field ++ more)) ∙ stops more)
-  behind {r} {s} so_far bytes rest e same as_deep (short front after whole ends stops) =
-      short (so_far ++ front) after (e ∙ ap (λ b. so_far ++ b) whole ∙ sym (append_assoc so_far front after))
-      (subst (Ends form r) (sym (append_assoc so_far front after)) (ends_behind so_far (front ++ after) same ends))
-      (λ others le. ap r (append_assoc so_far front others) ∙ same (front ++ others) ∙ stops others le)
-  behind {r} {s} so_far bytes rest e same as_deep (cut front groups whole are ends stops) =
-      cut (so_far ++ front) groups (e ∙ ap (λ b. so_far ++ b) whole ∙ sym (append_assoc so_far front groups)) are
-      (ends_behind so_far front same ends)
-      (λ others low. ap r (append_assoc so_far front others) ∙ same (front ++ others) ∙ stops others low)
-  behind {r} {s} {deeper} so_far bytes rest e same as_deep (nested n front count after whole is ends deep stops) =
-      nested n (so_far ++ front) count after (e ∙ ap (λ b. so_far ++ b) whole ∙ sym (append_assoc so_far front (count ++ after))) is
-      (ends_behind so_far front same ends)
-      (subst (Ends form deeper) (sym (append_assoc so_far front count)) (ends_behind so_far (front ++ count) as_deep deep))
-      (λ more. ap r (append_assoc so_far front (count ++ more)) ∙ same (front ++ (count ++ more)) ∙ stops more)
+  behind {r} {s} {deeper} {below} so_far bytes rest e same as_deep t = by_told t
+    where
+      whole : (front after : List ℕ) → rest ≡ front ++ after → bytes ≡ so_far ++ front ++ after
+      whole front after is = e ∙ ap (λ b. so_far ++ b) is ∙ sym (append_assoc so_far front after)
+
+      as_behind : (front more : List ℕ) (y : Result B Wrong) → s (front ++ more) ≡ y → r (so_far ++ front ++ more) ≡ y
+      as_behind front more y is = ap r (append_assoc so_far front more) ∙ same (front ++ more) ∙ is
+
+      ends_with : (front back : List ℕ) → Ends form s (front ++ back) → Ends form r (so_far ++ front ++ back)
+      ends_with front back ends = subst (Ends form r) (sym (append_assoc so_far front back)) (ends_behind so_far (front ++ back) same ends)
+
+      by_told : Told form s below rest → Told form r deeper bytes
+      by_told (read x front after is takes goes) =
+          read x (so_far ++ front) after (whole front after is) (λ more. as_behind front more _ (takes more))
+          (λ more. ap deeper (append_assoc so_far front more) ∙ as_deep (front ++ more) ∙ goes more)
+      by_told (tag byte front after is ends stops) =
+          tag byte (so_far ++ front) after (whole front (byte ∷ after) is) (ends_with front (0 ∷ []) ends) (λ more. as_behind front (byte ∷ more) _ (stops more))
+      by_told (size groups last front after is low mark ends sized stops) =
+          size groups last (so_far ++ front) after (whole front ((groups ++ last ∷ []) ++ after) is) low mark (ends_behind so_far front same ends) (sized_behind r s so_far front same sized)
+          (λ more. as_behind front ((groups ++ last ∷ []) ++ more) _ (stops more))
+      by_told (cut front groups is low ends sized stops) =
+          cut (so_far ++ front) groups (whole front groups is) low (ends_behind so_far front same ends) (sized_behind r s so_far front same sized) (as_behind front groups _ stops)
+      by_told (short front after is ends stops) =
+          short (so_far ++ front) after (whole front after is) (λ others le. ends_with front others (ends others le)) (λ others le. as_behind front others _ (stops others le))
+      by_told (nested n front count after is counted ends sized deep stops) =
+          nested n (so_far ++ front) count after (whole front (count ++ after) is) counted (ends_behind so_far front same ends) (sized_behind r s so_far front same sized)
+          (subst (Ends form deeper) (sym (append_assoc so_far front count)) (ends_behind so_far (front ++ count) as_deep deep)) (λ more. as_behind front (count ++ more) _ (stops more))
 
   -- readers that are the same everywhere tell the same
   pub tells_as : {r s deeper below : List ℕ → Result B Wrong} → ((bytes : List ℕ) → r bytes ≡ s bytes) → ((bytes : List ℕ) → deeper bytes ≡ below bytes)
@@ -114,14 +133,16 @@ module _ {A B C D : Type 0} {form : A → List ℕ → B} {then_form : C → Lis
       → Told form r deeper bytes → Told then_form (λ b. r b >>= s) (λ b. deeper b >>= below) bytes
   told_then r deeper s below bytes opens deep next (read x front rest whole takes goes) =
       behind front bytes rest whole (λ more. ap (λ y. y >>= s) (takes more)) (λ more. ap (λ y. y >>= below) (goes more)) (next x front rest whole)
-  told_then r deeper s below bytes opens deep next (refused what front field rest whole is ends stops) =
-      refused what front field rest whole is (ends_then r s front ends opens) (λ more. ap (λ y. y >>= s) (stops more))
+  told_then r deeper s below bytes opens deep next (tag byte front rest whole ends stops) =
+      tag byte front rest whole (ends_then r s (front ++ 0 ∷ []) ends opens) (λ more. ap (λ y. y >>= s) (stops more))
+  told_then r deeper s below bytes opens deep next (size groups last front rest whole low mark ends sized stops) =
+      size groups last front rest whole low mark (ends_then r s front ends opens) (sized_then r s front sized) (λ more. ap (λ y. y >>= s) (stops more))
+  told_then r deeper s below bytes opens deep next (cut front groups whole low ends sized stops) =
+      cut front groups whole low (ends_then r s front ends opens) (sized_then r s front sized) (ap (λ y. y >>= s) stops)
   told_then r deeper s below bytes opens deep next (short front rest whole ends stops) =
-      short front rest whole (ends_then r s (front ++ rest) ends opens) (λ others le. ap (λ y. y >>= s) (stops others le))
-  told_then r deeper s below bytes opens deep next (cut front groups whole are ends stops) =
-      cut front groups whole are (ends_then r s front ends opens) (λ others low. ap (λ y. y >>= s) (stops others low))
-  told_then r deeper s below bytes opens deep next (nested n front count rest whole is ends into stops) =
-      nested n front count rest whole is (ends_then r s front ends opens) (ends_then deeper below (front ++ count) into deep) (λ more. ap (λ y. y >>= s) (stops more))
+      short front rest whole (λ others le. ends_then r s (front ++ others) (ends others le) opens) (λ others le. ap (λ y. y >>= s) (stops others le))
+  told_then r deeper s below bytes opens deep next (nested n front count rest whole is ends sized into stops) =
+      nested n front count rest whole is (ends_then r s front ends opens) (sized_then r s front sized) (ends_then deeper below (front ++ count) into deep) (λ more. ap (λ y. y >>= s) (stops more))
 
   pub tells_then : (r deeper : List ℕ → Result B Wrong) (s below : B → Result D Wrong) → Tells form r deeper
       → ((x : A) → Tells then_form (λ b. s (form x b)) (λ b. below (form x b))) → Tells then_form (λ b. r b >>= s) (λ b. deeper b >>= below)

@@ -1,18 +1,17 @@
 -- What each single field of a chunk tells of any bytes.
-use Rattle.std.proofs.Common.{◌≡◌, ℕ, zero, suc, ◌+◌, ◌-◌, ◌*◌, ◌/◌, ◌%◌, ◌^◌, ◌<◌, ◌≤◌, ◌==◌, Bool, true, false, if◌then◌else◌, nat_lt, nat_le, List, [], ◌∷◌, ◌++◌, length, take, drop, Option, Some, None, Result, Ok, Err, refl, sym, ap, ◌∙◌, subst, append_assoc, take-append-drop, length-append, arith}
-use Rattle.std.proofs.Math.Seq.{take-append_seam, drop-append_seam, drop-length, take-length}
-use Rattle.std.proofs.lemmas.Bool.{eqb-true, leb-true, le-leb, ltb-true, ltb-false, lt-ltb, eq-eqb}
-use Rattle.std.proofs.lemmas.List.{append-nil, length-take-le, length-replicate}
+use Rattle.std.proofs.Common.{◌≡◌, ℕ, zero, suc, ◌+◌, ◌-◌, ◌*◌, ◌/◌, ◌%◌, ◌^◌, ◌<◌, ◌≤◌, ◌==◌, Bool, true, false, if◌then◌else◌, nat_lt, nat_le, List, [], ◌∷◌, ◌++◌, length, take, drop, Result, Ok, Err, refl, sym, ap, ◌∙◌, subst, append_assoc, take-append-drop, length-append, arith}
+use Rattle.std.proofs.Math.Seq.{take-append_seam, drop-append_seam, drop-length}
+use Rattle.std.proofs.lemmas.Bool.{ltb-true, ltb-false, lt-ltb}
+use Rattle.std.proofs.lemmas.List.{append-nil, length-take-le}
 use Rattle.std.specs.Int.{w32, w64, from_le_bytes}
-use Rattle.std.specs.List.{AllByRecursion, prefix_len}
+use Rattle.std.specs.List.{prefix_len}
 use Rattle.luf_proto.specs.Chunk.{groups, size}
-use Rattle.luf_undump.specs.FirstWrong.{AreBytes, AreGroups, IsField}
-use Rattle.luf_undump.specs.FirstWrong as spec
-use Rattle.luf_undump.specs.Reading.{◌>>=◌, Wrong, wrong, byte_at, fixed_byte_at, fixed_at, is_group, begins_with_zero, value_of_groups, last_group_at, size_at, count_at, run_at, word_at, number_at, flag_at, kind_at, upvalue_count_at}
-use Rattle.luf_undump.specs.declared.error.ChunkWhat.TheVariants.{BadHeader, Short, BadSize, BadTag}
+use Rattle.luf_undump.specs.FirstWrong.{AreBytes, AreGroups, HasSizeInFront}
+use Rattle.luf_undump.specs.Reading.{◌>>=◌, Wrong, wrong, byte_at, is_group, begins_with_zero, value_of_groups, last_group_at, size_at, count_at, run_at, word_at, number_at, flag_at, kind_at}
+use Rattle.luf_undump.specs.declared.error.ChunkWhat.TheVariants.{Short, BadSize}
 use Rattle.luf_undump.proofs.Complete.{true_test, false_test, word_complete, number_complete, run_complete, groups_end, last_group_complete, size_complete, count_complete}
-use Rattle.luf_undump.proofs.Sound.{grouped}
-use Rattle.luf_undump.proofs.Told.{Takes, Ends, Told, Tells, pair, alone, bytes_join, tells_then, tells_value}
+use Rattle.luf_undump.proofs.Sound.{grouped, size_reads}
+use Rattle.luf_undump.proofs.Told.{Takes, Ends, Sized, Told, Tells, pair, bytes_join}
 use Rattle.luf_undump.proofs.Told as told
 use Rattle.luf_undump.proofs.Written.{count_is, groups_low, size_is}
 
@@ -28,7 +27,7 @@ byte_opens = record { value = 0; more = 0 ∷ []; are = (omega arith, tt); ends 
 
 byte_told : (bytes : List ℕ) → Told pair byte_at byte_at bytes
 unfolding byte_at
-byte_told [] = told.short [] [] refl byte_opens (only_empty (λ others. byte_at others ≡ wrong others Short) refl)
+byte_told [] = told.short [] [] refl (only_empty (Ends pair byte_at) byte_opens) (only_empty (λ others. byte_at others ≡ wrong others Short) refl)
 byte_told (byte ∷ rest) = told.read byte (byte ∷ []) rest refl (λ more. refl) (λ more. refl)
 
 pub byte_tells : Tells pair byte_at byte_at
@@ -38,9 +37,13 @@ flag_opens : Ends pair flag_at []
 unfolding flag_at byte_at
 flag_opens = record { value = false; more = 0 ∷ []; are = (omega arith, tt); ends = λ rest. refl }
 
+flag_zero : Ends pair flag_at (0 ∷ [])
+unfolding flag_at byte_at
+flag_zero = record { value = false; more = []; are = tt; ends = λ rest. refl }
+
 flag_told : (bytes : List ℕ) → Told pair flag_at flag_at bytes
 unfolding flag_at byte_at
-flag_told [] = told.short [] [] refl flag_opens (only_empty (λ others. flag_at others ≡ wrong others Short) refl)
+flag_told [] = told.short [] [] refl (only_empty (Ends pair flag_at) flag_opens) (only_empty (λ others. flag_at others ≡ wrong others Short) refl)
 flag_told (byte ∷ rest) = by_test (byte == 0) (byte == 1) refl refl
   where
     by_test : (zero one : Bool) → (byte == 0) ≡ zero → (byte == 1) ≡ one → Told pair flag_at flag_at (byte ∷ rest)
@@ -49,7 +52,7 @@ flag_told (byte ∷ rest) = by_test (byte == 0) (byte == 1) refl refl
         told.read true (byte ∷ []) rest refl (λ more. false_test (byte == 0) _ _ is_zero ∙ true_test (byte == 1) _ _ is_one)
         (λ more. false_test (byte == 0) _ _ is_zero ∙ true_test (byte == 1) _ _ is_one)
     by_test false false is_zero is_one =
-        told.refused BadTag [] (byte ∷ []) rest refl (spec.tag_byte byte) flag_opens (λ more. false_test (byte == 0) _ _ is_zero ∙ false_test (byte == 1) _ _ is_one)
+        told.tag byte [] rest refl flag_zero (λ more. false_test (byte == 0) _ _ is_zero ∙ false_test (byte == 1) _ _ is_one)
 
 pub flag_tells : Tells pair flag_at flag_at
 flag_tells = record { told = flag_told; opens = flag_opens; opens_deeper = flag_opens }
@@ -58,38 +61,21 @@ kind_opens : Ends pair kind_at []
 unfolding kind_at byte_at
 kind_opens = record { value = 0; more = 0 ∷ []; are = (omega arith, tt); ends = λ rest. refl }
 
+kind_zero : Ends pair kind_at (0 ∷ [])
+unfolding kind_at byte_at
+kind_zero = record { value = 0; more = []; are = tt; ends = λ rest. refl }
+
 kind_told : (bytes : List ℕ) → Told pair kind_at kind_at bytes
 unfolding kind_at byte_at
-kind_told [] = told.short [] [] refl kind_opens (only_empty (λ others. kind_at others ≡ wrong others Short) refl)
+kind_told [] = told.short [] [] refl (only_empty (Ends pair kind_at) kind_opens) (only_empty (λ others. kind_at others ≡ wrong others Short) refl)
 kind_told (byte ∷ rest) = by_test (nat_le byte 3) refl
   where
     by_test : (low : Bool) → nat_le byte 3 ≡ low → Told pair kind_at kind_at (byte ∷ rest)
     by_test true is = told.read byte (byte ∷ []) rest refl (λ more. true_test (nat_le byte 3) _ _ is) (λ more. true_test (nat_le byte 3) _ _ is)
-    by_test false is = told.refused BadTag [] (byte ∷ []) rest refl (spec.tag_byte byte) kind_opens (λ more. false_test (nat_le byte 3) _ _ is)
+    by_test false is = told.tag byte [] rest refl kind_zero (λ more. false_test (nat_le byte 3) _ _ is)
 
 pub kind_tells : Tells pair kind_at kind_at
 kind_tells = record { told = kind_told; opens = kind_opens; opens_deeper = kind_opens }
-
-fixed_byte_opens : (wanted : ℕ) → wanted < 256 → Ends alone (fixed_byte_at wanted) []
-unfolding fixed_byte_at
-fixed_byte_opens wanted low = record { value = tt; more = wanted ∷ []; are = (low, tt); ends = λ rest. true_test (wanted == wanted) _ _ (eq-eqb wanted wanted refl) }
-
-fixed_byte_told : (wanted : ℕ) → wanted < 256 → (bytes : List ℕ) → Told alone (fixed_byte_at wanted) (fixed_byte_at wanted) bytes
-unfolding fixed_byte_at
-fixed_byte_told wanted low [] = told.short [] [] refl (fixed_byte_opens wanted low) (only_empty (λ others. fixed_byte_at wanted others ≡ wrong others Short) refl)
-fixed_byte_told wanted low (byte ∷ rest) = by_test (byte == wanted) refl
-  where
-    by_test : (same : Bool) → (byte == wanted) ≡ same → Told alone (fixed_byte_at wanted) (fixed_byte_at wanted) (byte ∷ rest)
-    by_test true is = told.read tt (byte ∷ []) rest refl (λ more. true_test (byte == wanted) _ _ is) (λ more. true_test (byte == wanted) _ _ is)
-    by_test false is = told.refused BadHeader [] (byte ∷ []) rest refl (spec.header_byte byte) (fixed_byte_opens wanted low) (λ more. false_test (byte == wanted) _ _ is)
-
-pub fixed_tells : (wanted : List ℕ) → AreBytes wanted → Tells alone (fixed_at wanted) (fixed_at wanted)
-unfolding fixed_at
-fixed_tells [] are = tells_value {then_form = alone} tt
-fixed_tells (wanted ∷ others) are =
-    let opens = fixed_byte_opens wanted are.0 in
-    tells_then {form = alone} {then_form = alone} (fixed_byte_at wanted) (fixed_byte_at wanted) _ _
-    (record { told = fixed_byte_told wanted are.0; opens = opens; opens_deeper = opens }) (λ x. fixed_tells others are.1)
 
 -- ---- so many bytes
 
@@ -127,7 +113,7 @@ module _ {A : Type 0} (len : ℕ) (r : List ℕ → Result (A × List ℕ) Wrong
       by_test : (b : Bool) → nat_lt (length bytes) len ≡ b → Told pair r r bytes
       by_test true is =
           let few = ltb-true (length bytes) len is in
-          told.short [] bytes refl (exact_ends bytes (omega (arith, few))) (λ others le. stops others (omega (arith, few, le)))
+          told.short [] bytes refl (λ others le. exact_ends others (omega (arith, few, le))) (λ others le. stops others (omega (arith, few, le)))
       by_test false is =
           let enough = length-take-le len bytes (ltb-false (length bytes) len is) in
           told.read (value (take len bytes)) (take len bytes) (drop len bytes) (sym (take-append-drop len bytes))
@@ -167,17 +153,27 @@ size_are n = bytes_join (groups 9 (n / 128)) ((n % 128 + 128) ∷ []) (groups_ar
 -- what a field that is a size tells: it is whole, it is bad whatever stands behind it, or the bytes end in it
 pub data Field {A B : Type 0} (form : A → List ℕ → B) (r : List ℕ → Result B Wrong) (bytes : List ℕ) : Type 0 where
   whole : (x : A) (front rest : List ℕ) → bytes ≡ front ++ rest → Takes form r x front → Field form r bytes
-  bad : (field rest : List ℕ) → bytes ≡ field ++ rest → IsField BadSize field → ((more : List ℕ) → r (field ++ more) ≡ wrong (field ++ more) BadSize) → Field form r bytes
-  broken : AreGroups bytes → ((others : List ℕ) → AreGroups others → r others ≡ wrong others Short) → Field form r bytes
+  bad : (groups : List ℕ) (last : ℕ) (rest : List ℕ) → bytes ≡ (groups ++ last ∷ []) ++ rest → AreGroups groups → 128 ≤ last
+      → ((more : List ℕ) → r ((groups ++ last ∷ []) ++ more) ≡ wrong ((groups ++ last ∷ []) ++ more) BadSize) → Field form r bytes
+  broken : AreGroups bytes → r bytes ≡ wrong bytes Short → Field form r bytes
 
-module _ {A B : Type 0} {form : A → List ℕ → B} (r : List ℕ → Result B Wrong) (opens : Ends form r []) where
+module _ {A B : Type 0} {form : A → List ℕ → B} (r : List ℕ → Result B Wrong) (opens : Ends form r []) (sized : Sized r []) where
   field_told : (bytes : List ℕ) → Field form r bytes → Told form r r bytes
   field_told bytes (whole x front rest e takes) = told.read x front rest e takes takes
-  field_told bytes (bad field rest e is stops) = told.refused BadSize [] field rest e is opens stops
-  field_told bytes (broken are stops) = told.cut [] bytes refl are opens stops
+  field_told bytes (bad groups last rest e low mark stops) = told.size groups last [] rest e low mark opens sized stops
+  field_told bytes (broken are stops) = told.cut [] bytes refl are opens sized stops
 
   pub field_tells : ((bytes : List ℕ) → Field form r bytes) → Tells form r r
   field_tells fields = record { told = λ bytes. field_told bytes (fields bytes); opens = opens; opens_deeper = opens }
+
+-- what is read as a size, and then looked at, begins with one
+pub size_in_front : {B : Type 0} (r : List ℕ → Result B Wrong) (test : List ℕ → ℕ × List ℕ → Result B Wrong) → ((bytes : List ℕ) → r bytes ≡ (size_at bytes >>= test bytes))
+    → (bytes : List ℕ) (y : B) → r bytes ≡ Ok y → HasSizeInFront bytes
+size_in_front r test is_sized bytes y h = by_size (size_at bytes) refl (sym (is_sized bytes) ∙ h)
+  where
+    by_size : (n : Result (ℕ × List ℕ) Wrong) → size_at bytes ≡ n → (n >>= test bytes) ≡ Ok y → HasSizeInFront bytes
+    by_size (Ok n) is goes = let s = (size_reads (length bytes) bytes (omega arith)).sound n is in (s.0, n.1, n.0, s.1, s.2)
+    by_size (Err e) is goes = absurd cc
 
 -- what becomes of a number that a size writes
 pub data Decided {A B : Type 0} (form : A → List ℕ → B) (test : List ℕ → ℕ × List ℕ → Result B Wrong) (n : ℕ) : Type 0 where
@@ -213,7 +209,7 @@ module _ {A B : Type 0} {form : A → List ℕ → B} (r : List ℕ → Result B
   bad_size : (bytes groups : List ℕ) (last : ℕ) (rest : List ℕ) → bytes ≡ groups ++ (last ∷ rest) → AreGroups groups → 128 ≤ last
       → ((more : List ℕ) → (size_at ((groups ++ last ∷ []) ++ more) >>= test ((groups ++ last ∷ []) ++ more)) ≡ wrong ((groups ++ last ∷ []) ++ more) BadSize) → Field form r bytes
   bad_size bytes groups last rest e low mark stops =
-      bad (groups ++ last ∷ []) rest (e ∙ sym (append_assoc groups (last ∷ []) rest)) (spec.whole_size groups last low mark)
+      bad groups last rest (e ∙ sym (append_assoc groups (last ∷ []) rest)) low mark
       (λ more. is_sized ((groups ++ last ∷ []) ++ more) ∙ stops more)
 
   whole_size : (bytes groups : List ℕ) (last : ℕ) (rest : List ℕ) → bytes ≡ groups ++ (last ∷ rest) → AreGroups groups → 128 ≤ last
@@ -242,7 +238,8 @@ module _ {A B : Type 0} {form : A → List ℕ → B} (r : List ℕ → Result B
 
   split : (bytes groups rest : List ℕ) → bytes ≡ groups ++ rest → AreGroups groups → ((last : ℕ) (after : List ℕ) → rest ≡ last ∷ after → 128 ≤ last) → Field form r bytes
   split bytes groups [] e low mark =
-      broken (subst AreGroups (sym (e ∙ append-nil groups)) low) (λ others are. is_sized others ∙ ap (λ y. y >>= test others) (size_cut others are))
+      let are = subst AreGroups (sym (e ∙ append-nil groups)) low in
+      broken are (is_sized bytes ∙ ap (λ y. y >>= test bytes) (size_cut bytes are))
   split bytes groups (last ∷ rest) e low mark = marked bytes groups last rest e low (mark last rest refl) (begins_with_zero groups) _ refl refl
 
   pub sized_field : (bytes : List ℕ) → Field form r bytes
@@ -261,6 +258,7 @@ bind_assoc (Err e) f g = refl
 pub size_tells : Tells pair size_at size_at
 size_tells =
     field_tells size_at (record { value = 0; more = size 0; are = size_are 0; ends = λ rest. size_complete (size 0) rest 0 (size_is 0 (omega arith)) })
+    (size_in_front size_at (λ bytes n. Ok n) (λ bytes. bind_ok (size_at bytes)))
     (sized_field {form = pair} size_at (λ bytes n. Ok n) (λ bytes. bind_ok (size_at bytes)) (λ n. taken n (λ bytes rest. refl)))
 
 pub count_opens : Ends pair count_at []
@@ -275,5 +273,9 @@ count_field =
     by_test n true is = taken n (λ bytes rest. true_test (nat_lt n (2 ^ 31)) _ _ is)
     by_test n false is = turned_down (λ bytes rest. false_test (nat_lt n (2 ^ 31)) _ _ is)
 
+pub count_sized : Sized count_at []
+unfolding count_at
+count_sized = size_in_front count_at (λ bytes n. if nat_lt n.0 (2 ^ 31) then Ok n else wrong bytes BadSize) (λ bytes. refl)
+
 pub count_tells : Tells pair count_at count_at
-count_tells = field_tells count_at count_opens count_field
+count_tells = field_tells count_at count_opens count_sized count_field

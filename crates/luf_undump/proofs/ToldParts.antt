@@ -1,20 +1,17 @@
 -- What each part of a function tells of any bytes.
-use Rattle.std.proofs.Common.{◌≡◌, ℕ, zero, suc, ◌+◌, ◌-◌, ◌^◌, ◌<◌, ◌≤◌, ◌==◌, Bool, true, false, if◌then◌else◌, nat_lt, nat_le, List, [], ◌∷◌, ◌++◌, length, take, drop, Option, Some, None, Result, Ok, Err, refl, sym, ap, ◌∙◌, subst, append_assoc, take-append-drop, length-append, arith}
-use Rattle.std.proofs.Math.Seq.{take-append_seam, drop-append_seam}
-use Rattle.std.proofs.lemmas.Bool.{eqb-true, leb-true, le-leb, ltb-true, ltb-false, le-ltb, lt-ltb, eq-eqb}
+use Rattle.std.proofs.Common.{◌≡◌, ℕ, ◌-◌, ◌^◌, ◌<◌, ◌≤◌, ◌==◌, Bool, true, false, if◌then◌else◌, nat_lt, nat_le, List, [], ◌∷◌, ◌++◌, length, take, drop, Option, Some, None, Result, Ok, Err, refl, sym, ap, ◌∙◌, subst, append_assoc, take-append-drop, length-append, arith}
+use Rattle.std.proofs.Math.Seq.{drop-append_seam}
+use Rattle.std.proofs.lemmas.Bool.{eqb-true, ltb-true, ltb-false, le-ltb, lt-ltb}
 use Rattle.std.proofs.lemmas.List.{append-nil, length-take-le}
 use Rattle.luf_proto.specs.Chunk.{size}
 use Rattle.luf_proto.specs.declared.proto.Const.{Const}
 use Rattle.luf_proto.specs.declared.proto.Const.TheVariants as const
-use Rattle.luf_undump.specs.FirstWrong.{AreBytes}
-use Rattle.luf_undump.specs.FirstWrong as spec
-use Rattle.luf_undump.specs.Reading.{◌>>=◌, Wrong, wrong, byte_at, size_at, count_at, run_at, word_at, number_at, flag_at, debug_string_at, has_length, constant_string_at, tagged_at, constant_at, kind_at, upvalue_at, many_at, upvalue_count_at, line_at, local_at, skip_at, distances_at, debug_at, head_at}
-use Rattle.luf_undump.specs.declared.error.ChunkWhat.TheVariants.{Short, BadSize, BadTag}
-use Rattle.luf_undump.specs.declared.function.Head.{Head}
+use Rattle.luf_undump.specs.Reading.{◌>>=◌, Wrong, wrong, byte_at, size_at, count_at, run_at, number_at, flag_at, debug_string_at, has_length, constant_string_at, tagged_at, constant_at, kind_at, upvalue_at, upvalue_count_at, line_at, local_at, skip_at, distances_at, debug_at, head_at}
+use Rattle.luf_undump.specs.declared.error.ChunkWhat.TheVariants.{Short, BadSize}
 use Rattle.luf_undump.proofs.Complete.{true_test, false_test, size_complete, upvalue_count_complete}
 use Rattle.luf_undump.proofs.Told.{Takes, Ends, Told, Tells, pair, alone, behind, tells_as, tells_then, tells_value, tells_skip}
 use Rattle.luf_undump.proofs.Told as told
-use Rattle.luf_undump.proofs.ToldFields.{Decided, Field, bind_assoc, byte_tells, count_tells, field_tells, flag_tells, kind_tells, number_tells, run_tells, size_are, size_tells, sized_field, zeros, zeros_are, zeros_length, only_empty}
+use Rattle.luf_undump.proofs.ToldFields.{Decided, Field, bind_assoc, byte_tells, count_tells, field_tells, flag_tells, kind_tells, number_tells, run_tells, size_are, size_in_front, size_tells, sized_field, zeros, zeros_are, zeros_length, only_empty}
 use Rattle.luf_undump.proofs.ToldFields as fields
 use Rattle.luf_undump.proofs.Written.{count_is, size_is}
 
@@ -60,7 +57,7 @@ count_opens (Some wanted) low = record { value = wanted; more = size wanted; are
 
 pub upvalue_count_tells : (main : Option ℕ) → CanBeAsked main → Tells pair (upvalue_count_at main) (upvalue_count_at main)
 upvalue_count_tells main low =
-    field_tells (upvalue_count_at main) (count_opens main low)
+    field_tells (upvalue_count_at main) (count_opens main low) (size_in_front (upvalue_count_at main) (λ bytes n. small_count bytes n >>= few_of main bytes) (count_test main))
     (sized_field {form = pair} (upvalue_count_at main) (λ bytes n. small_count bytes n >>= few_of main bytes) (count_test main) (count_decided main))
 
 -- ---- what only debugging reads
@@ -102,9 +99,10 @@ so_many_told n bytes = by_test (nat_lt (length bytes) n) refl
     by_test : (b : Bool) → nat_lt (length bytes) n ≡ b → Told alone (so_many n) (so_many n) bytes
     by_test true is =
         let few = ltb-true (length bytes) n is in
+        let no_bytes : Ends alone (so_many n) (bytes ++ []) = subst (Ends alone (so_many n)) (sym (append-nil bytes)) (so_many_ends n bytes (omega (arith, few))) in
         let at_end : so_many n (bytes ++ []) ≡ wrong [] Short =
         true_test (nat_lt (length (bytes ++ [])) n) _ _ (lt-ltb (length (bytes ++ [])) n (omega (arith, few, length-append bytes []))) in
-        told.short bytes [] (sym (append-nil bytes)) (subst (Ends alone (so_many n)) (sym (append-nil bytes)) (so_many_ends n bytes (omega (arith, few))))
+        told.short bytes [] (sym (append-nil bytes)) (only_empty (λ others. Ends alone (so_many n) (bytes ++ others)) no_bytes)
         (only_empty (λ others. so_many n (bytes ++ others) ≡ wrong others Short) at_end)
     by_test false is =
         let enough = length-take-le n bytes (ltb-false (length bytes) n is) in
@@ -169,7 +167,7 @@ length_opens true = record { value = 0; more = size 1; are = size_are 1; ends = 
 length_opens false = record { value = 41; more = size 42; are = size_are 42; ends = λ rest. ap (λ y. y >>= fitting false (size 42 ++ rest)) (size_complete (size 42) rest 42 (size_is 42 (omega arith))) }
 
 length_tells : (short : Bool) → Tells pair (length_at short) (length_at short)
-length_tells short = field_tells (length_at short) (length_opens short) (sized_field {form = pair} (length_at short) (fitting short) (λ bytes. refl) (length_decided short))
+length_tells short = field_tells (length_at short) (length_opens short) (size_in_front (length_at short) (fitting short) (λ bytes. refl)) (sized_field {form = pair} (length_at short) (fitting short) (λ bytes. refl) (length_decided short))
 
 constant_string_tells : (short : Bool) → Tells pair (constant_string_at short) (constant_string_at short)
 constant_string_tells short =
@@ -181,6 +179,10 @@ constant_opens : Ends pair constant_at []
 unfolding constant_at byte_at tagged_at
 constant_opens = record { value = const.Nil; more = 0 ∷ []; are = (omega arith, tt); ends = λ rest. refl }
 
+constant_zero : Ends pair constant_at (0 ∷ [])
+unfolding constant_at byte_at tagged_at
+constant_zero = record { value = const.Nil; more = []; are = tt; ends = λ rest. refl }
+
 -- a constant of this tag, by what stands behind it
 tagged_told : {r : List ℕ → Result (Const × List ℕ) Wrong} (tag byte : ℕ) (rest : List ℕ) → (byte == tag) ≡ true → ((more : List ℕ) → constant_at (tag ∷ more) ≡ r more)
     → Tells pair r r → Told pair constant_at constant_at (byte ∷ rest)
@@ -189,7 +191,7 @@ tagged_told tag byte rest is same t =
 
 constant_told : (bytes : List ℕ) → Told pair constant_at constant_at bytes
 unfolding constant_at byte_at tagged_at
-constant_told [] = told.short [] [] refl constant_opens (only_empty (λ others. constant_at others ≡ wrong others Short) refl)
+constant_told [] = told.short [] [] refl (only_empty (Ends pair constant_at) constant_opens) (only_empty (λ others. constant_at others ≡ wrong others Short) refl)
 constant_told (tag ∷ rest) = by_test (tag == 0) (tag == 1) (tag == 17) (tag == 3) (tag == 19) (tag == 4) (tag == 20) refl refl refl refl refl refl refl
   where
     by_test : (zero one true_tag integer float short long : Bool) → (tag == 0) ≡ zero → (tag == 1) ≡ one → (tag == 17) ≡ true_tag → (tag == 3) ≡ integer → (tag == 19) ≡ float → (tag == 4) ≡ short → (tag == 20) ≡ long
@@ -204,7 +206,7 @@ constant_told (tag ∷ rest) = by_test (tag == 0) (tag == 1) (tag == 17) (tag ==
     by_test false false false false false true long e0 e1 e17 e3 e19 e4 e20 = tagged_told 4 tag rest e4 (λ more. refl) (constant_string_tells true)
     by_test false false false false false false true e0 e1 e17 e3 e19 e4 e20 = tagged_told 20 tag rest e20 (λ more. refl) (constant_string_tells false)
     by_test false false false false false false false e0 e1 e17 e3 e19 e4 e20 =
-        told.refused BadTag [] (tag ∷ []) rest refl (spec.tag_byte tag) constant_opens
+        told.tag tag [] rest refl constant_zero
         (λ more. false_test (tag == 0) _ _ e0 ∙ false_test (tag == 1) _ _ e1 ∙ false_test (tag == 17) _ _ e17 ∙ false_test (tag == 3) _ _ e3 ∙ false_test (tag == 19) _ _ e19
         ∙ false_test (tag == 4) _ _ e4 ∙ false_test (tag == 20) _ _ e20)
 

@@ -1,14 +1,9 @@
--- The field with which a chunk can no longer be had, by the grammar of chunks alone: what stands before it begins some chunk, and
--- with it no chunk goes on. What that is of each way to be wrong:
--- - a byte of the header, a tag or a size: with that byte or size in front, no chunk goes on;
--- - a field that the bytes end in: as many bytes as are left are too few, whichever they are, or are groups of a size and no end of it;
--- - a function too deep: no chunk goes on with the count of functions before it, and one of one more level does;
--- - a byte behind a chunk.
-use Rattle.std.specs.Prelude.{ℕ, suc, ◌<◌, ◌≤◌, List, [], ◌∷◌, ◌++◌, length, Some}
+-- The first field with which no chunk goes on, by the grammar of chunks alone: what stands before the field begins some chunk.
+use Rattle.std.specs.Prelude.{◌≡◌, ℕ, suc, ◌<◌, ◌≤◌, List, [], ◌∷◌, ◌++◌, length, Some}
 use Rattle.std.specs.List.{AllByRecursion}
 use Rattle.luf_proto.specs.Chunk.{header}
 use Rattle.luf_proto.specs.Function.{Function}
-use Rattle.luf_undump.specs.Grammar.{IsChunkOf, IsCountOf, IsFunctionOf}
+use Rattle.luf_undump.specs.Grammar.{IsChunkOf, IsCountOf, IsFunctionOf, IsSizeOf}
 use Rattle.luf_undump.specs.Reading.{most_levels}
 use Rattle.luf_undump.specs.declared.error.ChunkWhat.{ChunkWhat}
 use Rattle.luf_undump.specs.declared.error.ChunkWhat.TheVariants.{BadHeader, Short, BadSize, BadTag, Nested, Trailing}
@@ -20,6 +15,8 @@ AreBytes bytes = AllByRecursion (λ byte. byte < 256) bytes
 abbrev pub AreGroups : List ℕ → Type 0
 AreGroups bytes = AllByRecursion (λ byte. byte < 128) bytes
 
+-- ---- what goes on to a chunk
+
 -- some chunk begins so
 abbrev pub Begins : List ℕ → Type 0
 Begins front = (more : List ℕ) × (f : Function) × AreBytes more × IsChunkOf (front ++ more) f
@@ -28,26 +25,40 @@ Begins front = (more : List ℕ) × (f : Function) × AreBytes more × IsChunkOf
 abbrev pub BeginsNone : List ℕ → Type 0
 BeginsNone front = (more : List ℕ) (f : Function) → IsChunkOf (front ++ more) f → ⊥
 
--- the same bytes as a chunk has, with one more level of functions
+abbrev pub HasSizeInFront : List ℕ → Type 0
+HasSizeInFront bytes = (size rest : List ℕ) × (n : ℕ) × (bytes ≡ size ++ rest) × IsSizeOf size n
+
+-- a size is next: each chunk that begins so goes on with one
+abbrev pub WantsSize : List ℕ → Type 0
+WantsSize front = (more : List ℕ) (f : Function) → IsChunkOf (front ++ more) f → HasSizeInFront more
+
+-- a chunk, but that functions may stand one level deeper
 pub data IsDeeperChunkOf : List ℕ → Function → Type 0 where
   deeper_chunk : (upvalues : ℕ) (main : List ℕ) (f : Function) → IsFunctionOf (suc most_levels) (Some upvalues) main f → IsDeeperChunkOf (header ++ upvalues ∷ main) f
 
 abbrev pub BeginsDeeper : List ℕ → Type 0
 BeginsDeeper front = (more : List ℕ) × (f : Function) × AreBytes more × IsDeeperChunkOf (front ++ more) f
 
--- the bytes of a field that is there and is wrong: a byte, or a size as far as its mark
-pub data IsField : ChunkWhat → List ℕ → Type 0 where
-  header_byte : (byte : ℕ) → IsField BadHeader (byte ∷ [])
-  tag_byte : (byte : ℕ) → IsField BadTag (byte ∷ [])
-  whole_size : (groups : List ℕ) (last : ℕ) → AreGroups groups → 128 ≤ last → IsField BadSize (groups ++ last ∷ [])
+-- ---- the field
 
 -- of these bytes the first wrong field begins at this one, and is wrong so
 pub data IsFirstWrong : List ℕ → ℕ → ChunkWhat → Type 0 where
-  wrong_field : (what : ChunkWhat) (front field rest : List ℕ) → IsField what field → Begins front → BeginsNone (front ++ field) → IsFirstWrong (front ++ field ++ rest) (length front) what
-  short_bytes : (front rest : List ℕ) → Begins (front ++ rest) → ((others : List ℕ) (f : Function) → length others ≤ length rest → IsChunkOf (front ++ others) f → ⊥)
-      → IsFirstWrong (front ++ rest) (length front) Short
-  short_size : (front groups : List ℕ) → AreGroups groups → Begins front → ((others : List ℕ) (f : Function) → AreGroups others → IsChunkOf (front ++ others) f → ⊥)
-      → IsFirstWrong (front ++ groups) (length front) Short
-  too_deep : (front count rest : List ℕ) (n : ℕ) → IsCountOf count (suc n) → Begins front → BeginsDeeper (front ++ count) → BeginsNone (front ++ count)
+  -- a byte that is not the header's
+  bad_header : (front others rest : List ℕ) (byte wanted : ℕ) → header ≡ front ++ wanted ∷ others → (byte ≡ wanted → ⊥) → Begins front → BeginsNone (front ++ byte ∷ [])
+      → IsFirstWrong (front ++ byte ∷ rest) (length front) BadHeader
+  -- a tag, a flag or a kind, which all could be 0
+  bad_tag : (front rest : List ℕ) (byte : ℕ) → length header ≤ length front → Begins (front ++ 0 ∷ []) → BeginsNone (front ++ byte ∷ [])
+      → IsFirstWrong (front ++ byte ∷ rest) (length front) BadTag
+  -- a size as far as its mark
+  bad_size : (front groups rest : List ℕ) (last : ℕ) → AreGroups groups → 128 ≤ last → Begins front → WantsSize front → BeginsNone (front ++ groups ++ last ∷ [])
+      → IsFirstWrong (front ++ groups ++ last ∷ rest) (length front) BadSize
+  -- a size that the bytes end in
+  short_size : (front groups : List ℕ) → AreGroups groups → Begins front → WantsSize front → IsFirstWrong (front ++ groups) (length front) Short
+  -- any other field that the bytes end in: as many bytes as are left, or fewer, whichever they are, begin a chunk and are none
+  short_bytes : (front rest : List ℕ) → ((others : List ℕ) → length others ≤ length rest → Begins (front ++ others))
+      → ((others : List ℕ) (f : Function) → length others ≤ length rest → IsChunkOf (front ++ others) f → ⊥) → IsFirstWrong (front ++ rest) (length front) Short
+  -- a count of functions where none may be: they would be too deep, by one level. Nested is told behind the count, where the first of them is to begin
+  too_deep : (front count rest : List ℕ) (n : ℕ) → IsCountOf count (suc n) → Begins front → WantsSize front → BeginsNone (front ++ count) → BeginsDeeper (front ++ count)
       → IsFirstWrong (front ++ count ++ rest) (length (front ++ count)) Nested
+  -- a byte behind a chunk
   byte_behind : (front rest : List ℕ) (byte : ℕ) (f : Function) → IsChunkOf front f → BeginsNone (front ++ byte ∷ []) → IsFirstWrong (front ++ byte ∷ rest) (length front) Trailing
