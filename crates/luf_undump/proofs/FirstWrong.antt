@@ -75,6 +75,9 @@ begins_deeper front back e =
     let whole = deeper_chunk (all ++ e.more) e.value (ap (λ b. body_at (suc most_levels) (all ++ b)) (sym (append-nil e.more)) ∙ e.ends []) in
     subst BeginsDeeper (sym (append_assoc header front back)) (e.more, e.value, e.are, subst (λ b. IsDeeperChunkOf b e.value) (sym (append_assoc header all e.more)) whole)
 
+not_in_header : (front : List ℕ) → length header ≤ length (header ++ front)
+not_in_header front = omega (arith, length-append header front)
+
 -- bytes of which main is not read are no chunk
 no_chunk : (bytes same : List ℕ) (e : Wrong) (f : Function) → bytes ≡ header ++ same → body_at most_levels same ≡ Err e → IsChunkOf bytes f → ⊥
 no_chunk bytes same e f whole stops is =
@@ -184,17 +187,17 @@ module _ (bytes inner : List ℕ) (at : ℕ) (what : ChunkWhat) (cause : HasCaus
   by_told (told.read f front rest whole takes goes) = trailing front rest f whole takes
   by_told (told.tag byte front rest whole ends stops) =
       answer front (byte ∷ rest) BadTag whole (stops rest)
-      (spec.bad_tag (header ++ front) rest byte (omega (arith, length-append header front)) (begins_with front (0 ∷ []) ends) (begins_none front (byte ∷ []) _ stops))
+      (spec.bad_tag (header ++ front) rest byte (not_in_header front) (begins_with front (0 ∷ []) ends) (begins_none front (byte ∷ []) _ stops))
   by_told (told.size groups last front rest whole low mark ends sized stops) =
       answer front ((groups ++ last ∷ []) ++ rest) BadSize whole (stops rest)
       (subst (λ b. IsFirstWrong b (length (header ++ front)) BadSize) (regrouped (header ++ front) groups last rest)
-      (spec.bad_size (header ++ front) groups rest last low mark (begins front ends) (wants_size front sized)
+      (spec.bad_size (header ++ front) groups rest last (not_in_header front) low mark (begins front ends) (wants_size front sized)
       (subst BeginsNone (sym (append_assoc (header ++ front) groups (last ∷ []))) (begins_none front (groups ++ last ∷ []) _ stops))))
     where
       regrouped : (front groups : List ℕ) (last : ℕ) (rest : List ℕ) → front ++ groups ++ last ∷ rest ≡ front ++ ((groups ++ last ∷ []) ++ rest)
       regrouped front groups last rest = simp append_assoc
   by_told (told.cut front groups whole low ends sized stops) =
-      answer front groups Short whole stops (spec.short_size (header ++ front) groups low (begins front ends) (wants_size front sized))
+      answer front groups Short whole stops (spec.short_size (header ++ front) groups (not_in_header front) low (begins front ends) (wants_size front sized))
   by_told (told.short front rest whole ends stops) =
       answer front rest Short whole (stops rest (omega arith))
       (spec.short_bytes (header ++ front) rest (λ others le. begins_with front others (ends others le))

@@ -50,10 +50,10 @@ pub data IsFirstWrong : List ℕ → ℕ → ChunkWhat → Type 0 where
   bad_tag : (front rest : List ℕ) (byte : ℕ) → length header ≤ length front → Begins (front ++ 0 ∷ []) → BeginsNone (front ++ byte ∷ [])
       → IsFirstWrong (front ++ byte ∷ rest) (length front) BadTag
   -- a size as far as its mark
-  bad_size : (front groups rest : List ℕ) (last : ℕ) → AreGroups groups → 128 ≤ last → Begins front → WantsSize front → BeginsNone (front ++ groups ++ last ∷ [])
+  bad_size : (front groups rest : List ℕ) (last : ℕ) → length header ≤ length front → AreGroups groups → 128 ≤ last → Begins front → WantsSize front → BeginsNone (front ++ groups ++ last ∷ [])
       → IsFirstWrong (front ++ groups ++ last ∷ rest) (length front) BadSize
   -- a size that the bytes end in
-  short_size : (front groups : List ℕ) → AreGroups groups → Begins front → WantsSize front → IsFirstWrong (front ++ groups) (length front) Short
+  short_size : (front groups : List ℕ) → length header ≤ length front → AreGroups groups → Begins front → WantsSize front → IsFirstWrong (front ++ groups) (length front) Short
   -- any other field that the bytes end in: as many bytes as are left, or fewer, whichever they are, begin a chunk and are none
   short_bytes : (front rest : List ℕ) → ((others : List ℕ) → length others ≤ length rest → Begins (front ++ others))
       → ((others : List ℕ) (f : Function) → length others ≤ length rest → IsChunkOf (front ++ others) f → ⊥) → IsFirstWrong (front ++ rest) (length front) Short
