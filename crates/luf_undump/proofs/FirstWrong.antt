@@ -5,7 +5,9 @@ use Rattle.std.proofs.lemmas.List.{append-nil}
 use Rattle.luf_proto.specs.Chunk.{header}
 use Rattle.luf_proto.specs.Function.{Function}
 use Rattle.luf_undump.specs.Answers.{HasCause}
-use Rattle.luf_undump.specs.FirstWrong.{AreBytes, Begins, BeginsDeeper, BeginsNone, IsDeeperChunkOf, IsFirstWrong, WantsSize}
+use Rattle.luf_undump.specs.Field.{InBytes, InChunk, Kind, a_size, some_bytes}
+use Rattle.luf_undump.specs.Field as field
+use Rattle.luf_undump.specs.FirstWrong.{AreBytes, Begins, BeginsDeeper, BeginsNone, IsDeeperChunkOf, IsFirstWrong}
 use Rattle.luf_undump.specs.FirstWrong as spec
 use Rattle.luf_undump.specs.Grammar.{IsChunkOf, IsFunctionOf}
 use Rattle.luf_undump.specs.Reading.{◌>>=◌, Wrong, wrong, byte_at, fixed_byte_at, fixed_at, function_at, chunk_at, most_levels}
@@ -16,10 +18,10 @@ use Rattle.luf_undump.proofs.Complete.{chunk_complete, false_test, fixed_complet
 use Rattle.luf_undump.proofs.OneAnswer.{never_both}
 use Rattle.luf_undump.proofs.Sound.{Reads, Writes, andthen_told, byte_reads, chunk_sound, function_reads, under}
 use Rattle.luf_undump.proofs.Sound as sound
-use Rattle.luf_undump.proofs.Told.{Ends, Sized, Told, pair, bytes_join, sized_then}
+use Rattle.luf_undump.proofs.Told.{Ends, Told, pair, bytes_join}
 use Rattle.luf_undump.proofs.Told as told
 use Rattle.luf_undump.proofs.ToldFields.{bind_assoc, only_empty}
-use Rattle.luf_undump.proofs.ToldFunctions.{body_at, body_opens, body_told}
+use Rattle.luf_undump.proofs.ToldFunctions.{InBody, body_at, body_opens, body_told}
 
 -- ---- all of a chunk, by what stands behind its header
 
@@ -89,10 +91,14 @@ regroup a b c d = simp append_assoc
 begins_none : (front field : List ℕ) (e : List ℕ → Wrong) → ((more : List ℕ) → body_at most_levels (front ++ (field ++ more)) ≡ Err (e more)) → BeginsNone (header ++ front ++ field)
 begins_none front field e stops more f is = no_chunk (header ++ front ++ field ++ more) (front ++ (field ++ more)) (e more) f (regroup header front field more) (stops more) is
 
-wants_size : (front : List ℕ) → Sized (body_at most_levels) front → WantsSize (header ++ front)
-wants_size front sized more f is =
-    sized_then (body_at most_levels) all_read front sized more f
-    (sym (by_body (front ++ more)) ∙ ap chunk_at (sym (append_assoc header front more)) ∙ chunk_complete (header ++ front ++ more) f is)
+-- ---- the fields
+
+in_body : (front : List ℕ) (kind : Kind) → InBody most_levels front kind → InChunk (header ++ front) kind
+in_body front kind (field.in_first same_front same_kind is) = in_byte front kind is
+  where
+    in_byte : (front : List ℕ) (kind : Kind) → InBytes 1 front kind → InChunk (header ++ front) kind
+    in_byte front kind field.begins = subst (λ b. InChunk b (some_bytes 1)) (sym (append-nil header)) field.upvalue_byte
+in_body front kind (field.in_second first back n same_kind is next) = subst (λ b. InChunk (header ++ (b ++ back)) kind) (sym is) (field.in_main n back kind next)
 
 -- ---- the header
 
@@ -183,31 +189,31 @@ module _ (bytes inner : List ℕ) (at : ℕ) (what : ChunkWhat) (cause : HasCaus
       (λ more g is. never_both g _ (chunk_at (header ++ front ++ byte ∷ [] ++ more)) (chunk_complete (header ++ front ++ byte ∷ [] ++ more) g is)
       (ap chunk_at (regroup header front (byte ∷ []) more) ∙ byte_more front f byte takes more)))
 
-  by_told : Told pair (body_at most_levels) (body_at (suc most_levels)) inner → IsFirstWrong bytes at what
+  by_told : Told pair (InBody most_levels) (body_at most_levels) (body_at (suc most_levels)) inner → IsFirstWrong bytes at what
   by_told (told.read f front rest whole takes goes) = trailing front rest f whole takes
-  by_told (told.tag byte front rest whole ends stops) =
+  by_told (told.tag byte front rest whole next ends stops) =
       answer front (byte ∷ rest) BadTag whole (stops rest)
-      (spec.bad_tag (header ++ front) rest byte (not_in_header front) (begins_with front (0 ∷ []) ends) (begins_none front (byte ∷ []) _ stops))
-  by_told (told.size groups last front rest whole low mark ends sized stops) =
+      (spec.bad_tag (header ++ front) rest byte (not_in_header front) (in_body front (some_bytes 1) next) (begins_with front (0 ∷ []) ends) (begins_none front (byte ∷ []) _ stops))
+  by_told (told.size groups last front rest whole next low mark ends stops) =
       answer front ((groups ++ last ∷ []) ++ rest) BadSize whole (stops rest)
       (subst (λ b. IsFirstWrong b (length (header ++ front)) BadSize) (regrouped (header ++ front) groups last rest)
-      (spec.bad_size (header ++ front) groups rest last (not_in_header front) low mark (begins front ends) (wants_size front sized)
+      (spec.bad_size (header ++ front) groups rest last low mark (in_body front a_size next) (begins front ends)
       (subst BeginsNone (sym (append_assoc (header ++ front) groups (last ∷ []))) (begins_none front (groups ++ last ∷ []) _ stops))))
     where
       regrouped : (front groups : List ℕ) (last : ℕ) (rest : List ℕ) → front ++ groups ++ last ∷ rest ≡ front ++ ((groups ++ last ∷ []) ++ rest)
       regrouped front groups last rest = simp append_assoc
-  by_told (told.cut front groups whole low ends sized stops) =
-      answer front groups Short whole stops (spec.short_size (header ++ front) groups (not_in_header front) low (begins front ends) (wants_size front sized))
-  by_told (told.short front rest whole ends stops) =
+  by_told (told.cut front groups whole next low ends stops) =
+      answer front groups Short whole stops (spec.short_size (header ++ front) groups low (in_body front a_size next) (begins front ends))
+  by_told (told.short n front rest whole next few ends stops) =
       answer front rest Short whole (stops rest (omega arith))
-      (spec.short_bytes (header ++ front) rest (λ others le. begins_with front others (ends others le))
+      (spec.short_bytes (header ++ front) rest n few (in_body front (some_bytes n) next) (λ others le. begins_with front others (ends others le))
       (λ others f le is. no_chunk (header ++ front ++ others) (front ++ others) _ f (append_assoc header front others) (stops others le) is))
-  by_told (told.nested n front count rest whole counted ends sized deep stops) =
+  by_told (told.nested n front count rest whole next counted ends deep stops) =
       let all : inner ≡ front ++ count ++ rest = whole ∙ sym (append_assoc front count rest) in
       let place : header ++ (front ++ count) ≡ header ++ front ++ count = sym (append_assoc header front count) in
       answer (front ++ count) rest Nested all (ap (body_at most_levels) (append_assoc front count rest) ∙ stops rest)
       (subst (λ b. IsFirstWrong (b ++ rest) (length b) Nested) (sym place)
-      (spec.too_deep (header ++ front) count rest n counted (begins front ends) (wants_size front sized) (begins_none front count _ stops) (begins_deeper front count deep)))
+      (spec.too_deep (header ++ front) count rest n counted (in_body front a_size next) (begins front ends) (begins_none front count _ stops) (begins_deeper front count deep)))
 
 pub refused_is_first : (bytes : List ℕ) (at : ℕ) (what : ChunkWhat) → AreBytes bytes → HasCause bytes (Bad at what) → IsFirstWrong bytes at what
 refused_is_first bytes at what are cause = by_header (compared header bytes)
@@ -224,6 +230,6 @@ refused_is_first bytes at what are cause = by_header (compared header bytes)
         let stops : chunk_at bytes ≡ wrong [] Short = header_stops bytes _ (ap (λ h. fixed_at h bytes) e ∙ fixed_cut bytes others next) in
         let all : bytes ++ [] ≡ bytes = append-nil bytes in
         concluded bytes bytes [] at what Short cause (sym all) stops
-        (spec.short_bytes bytes [] (only_empty (λ o. Begins (bytes ++ o)) (subst Begins (sym all) (header_begins bytes (next ∷ others) e)))
+        (spec.short_bytes bytes [] 1 (omega arith) (field.in_header bytes others next e) (only_empty (λ o. Begins (bytes ++ o)) (subst Begins (sym all) (header_begins bytes (next ∷ others) e)))
         (λ o f le is. only_empty (λ o. (f : Function) → IsChunkOf (bytes ++ o) f → ⊥)
         (λ f is. never_both f _ (chunk_at (bytes ++ [])) (chunk_complete (bytes ++ []) f is) (ap chunk_at all ∙ stops)) o le f is))

@@ -5,6 +5,7 @@ pub mod Groups
 pub mod Loop
 pub mod OneAnswer
 pub mod Sound
+pub mod Taken
 pub mod Told
 pub mod ToldFields
 pub mod ToldFunctions

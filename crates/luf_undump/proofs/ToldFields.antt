@@ -6,12 +6,14 @@ use Rattle.std.proofs.lemmas.List.{append-nil, length-take-le}
 use Rattle.std.specs.Int.{w32, w64, from_le_bytes}
 use Rattle.std.specs.List.{prefix_len}
 use Rattle.luf_proto.specs.Chunk.{groups, size}
-use Rattle.luf_undump.specs.FirstWrong.{AreBytes, AreGroups, HasSizeInFront}
+use Rattle.luf_undump.specs.Field.{InBytes, InSize}
+use Rattle.luf_undump.specs.Field as field
+use Rattle.luf_undump.specs.FirstWrong.{AreBytes, AreGroups}
 use Rattle.luf_undump.specs.Reading.{◌>>=◌, Wrong, wrong, byte_at, is_group, begins_with_zero, value_of_groups, last_group_at, size_at, count_at, run_at, word_at, number_at, flag_at, kind_at}
 use Rattle.luf_undump.specs.declared.error.ChunkWhat.TheVariants.{Short, BadSize}
 use Rattle.luf_undump.proofs.Complete.{true_test, false_test, word_complete, number_complete, run_complete, groups_end, last_group_complete, size_complete, count_complete}
-use Rattle.luf_undump.proofs.Sound.{grouped, size_reads}
-use Rattle.luf_undump.proofs.Told.{Takes, Ends, Sized, Told, Tells, pair, bytes_join}
+use Rattle.luf_undump.proofs.Sound.{grouped}
+use Rattle.luf_undump.proofs.Told.{Takes, Ends, Told, Tells, pair, bytes_join}
 use Rattle.luf_undump.proofs.Told as told
 use Rattle.luf_undump.proofs.Written.{count_is, groups_low, size_is}
 
@@ -25,12 +27,12 @@ byte_opens : Ends pair byte_at []
 unfolding byte_at
 byte_opens = record { value = 0; more = 0 ∷ []; are = (omega arith, tt); ends = λ rest. refl }
 
-byte_told : (bytes : List ℕ) → Told pair byte_at byte_at bytes
+byte_told : (bytes : List ℕ) → Told pair (InBytes 1) byte_at byte_at bytes
 unfolding byte_at
-byte_told [] = told.short [] [] refl (only_empty (Ends pair byte_at) byte_opens) (only_empty (λ others. byte_at others ≡ wrong others Short) refl)
+byte_told [] = told.short 1 [] [] refl field.begins (omega arith) (only_empty (Ends pair byte_at) byte_opens) (only_empty (λ others. byte_at others ≡ wrong others Short) refl)
 byte_told (byte ∷ rest) = told.read byte (byte ∷ []) rest refl (λ more. refl) (λ more. refl)
 
-pub byte_tells : Tells pair byte_at byte_at
+pub byte_tells : Tells pair (InBytes 1) byte_at byte_at
 byte_tells = record { told = byte_told; opens = byte_opens; opens_deeper = byte_opens }
 
 flag_opens : Ends pair flag_at []
@@ -41,20 +43,20 @@ flag_zero : Ends pair flag_at (0 ∷ [])
 unfolding flag_at byte_at
 flag_zero = record { value = false; more = []; are = tt; ends = λ rest. refl }
 
-flag_told : (bytes : List ℕ) → Told pair flag_at flag_at bytes
+flag_told : (bytes : List ℕ) → Told pair (InBytes 1) flag_at flag_at bytes
 unfolding flag_at byte_at
-flag_told [] = told.short [] [] refl (only_empty (Ends pair flag_at) flag_opens) (only_empty (λ others. flag_at others ≡ wrong others Short) refl)
+flag_told [] = told.short 1 [] [] refl field.begins (omega arith) (only_empty (Ends pair flag_at) flag_opens) (only_empty (λ others. flag_at others ≡ wrong others Short) refl)
 flag_told (byte ∷ rest) = by_test (byte == 0) (byte == 1) refl refl
   where
-    by_test : (zero one : Bool) → (byte == 0) ≡ zero → (byte == 1) ≡ one → Told pair flag_at flag_at (byte ∷ rest)
+    by_test : (zero one : Bool) → (byte == 0) ≡ zero → (byte == 1) ≡ one → Told pair (InBytes 1) flag_at flag_at (byte ∷ rest)
     by_test true one is_zero is_one = told.read false (byte ∷ []) rest refl (λ more. true_test (byte == 0) _ _ is_zero) (λ more. true_test (byte == 0) _ _ is_zero)
     by_test false true is_zero is_one =
         told.read true (byte ∷ []) rest refl (λ more. false_test (byte == 0) _ _ is_zero ∙ true_test (byte == 1) _ _ is_one)
         (λ more. false_test (byte == 0) _ _ is_zero ∙ true_test (byte == 1) _ _ is_one)
     by_test false false is_zero is_one =
-        told.tag byte [] rest refl flag_zero (λ more. false_test (byte == 0) _ _ is_zero ∙ false_test (byte == 1) _ _ is_one)
+        told.tag byte [] rest refl field.begins flag_zero (λ more. false_test (byte == 0) _ _ is_zero ∙ false_test (byte == 1) _ _ is_one)
 
-pub flag_tells : Tells pair flag_at flag_at
+pub flag_tells : Tells pair (InBytes 1) flag_at flag_at
 flag_tells = record { told = flag_told; opens = flag_opens; opens_deeper = flag_opens }
 
 kind_opens : Ends pair kind_at []
@@ -65,16 +67,16 @@ kind_zero : Ends pair kind_at (0 ∷ [])
 unfolding kind_at byte_at
 kind_zero = record { value = 0; more = []; are = tt; ends = λ rest. refl }
 
-kind_told : (bytes : List ℕ) → Told pair kind_at kind_at bytes
+kind_told : (bytes : List ℕ) → Told pair (InBytes 1) kind_at kind_at bytes
 unfolding kind_at byte_at
-kind_told [] = told.short [] [] refl (only_empty (Ends pair kind_at) kind_opens) (only_empty (λ others. kind_at others ≡ wrong others Short) refl)
+kind_told [] = told.short 1 [] [] refl field.begins (omega arith) (only_empty (Ends pair kind_at) kind_opens) (only_empty (λ others. kind_at others ≡ wrong others Short) refl)
 kind_told (byte ∷ rest) = by_test (nat_le byte 3) refl
   where
-    by_test : (low : Bool) → nat_le byte 3 ≡ low → Told pair kind_at kind_at (byte ∷ rest)
+    by_test : (low : Bool) → nat_le byte 3 ≡ low → Told pair (InBytes 1) kind_at kind_at (byte ∷ rest)
     by_test true is = told.read byte (byte ∷ []) rest refl (λ more. true_test (nat_le byte 3) _ _ is) (λ more. true_test (nat_le byte 3) _ _ is)
-    by_test false is = told.tag byte [] rest refl kind_zero (λ more. false_test (nat_le byte 3) _ _ is)
+    by_test false is = told.tag byte [] rest refl field.begins kind_zero (λ more. false_test (nat_le byte 3) _ _ is)
 
-pub kind_tells : Tells pair kind_at kind_at
+pub kind_tells : Tells pair (InBytes 1) kind_at kind_at
 kind_tells = record { told = kind_told; opens = kind_opens; opens_deeper = kind_opens }
 
 -- ---- so many bytes
@@ -107,34 +109,34 @@ module _ {A : Type 0} (len : ℕ) (r : List ℕ → Result (A × List ℕ) Wrong
         ends = λ rest. ap r (sym (append_assoc bytes pad rest)) ∙ takes (bytes ++ pad) rest whole;
       }
 
-  exact_told : (bytes : List ℕ) → Told pair r r bytes
+  exact_told : (bytes : List ℕ) → Told pair (InBytes len) r r bytes
   exact_told bytes = by_test (nat_lt (length bytes) len) refl
     where
-      by_test : (b : Bool) → nat_lt (length bytes) len ≡ b → Told pair r r bytes
+      by_test : (b : Bool) → nat_lt (length bytes) len ≡ b → Told pair (InBytes len) r r bytes
       by_test true is =
           let few = ltb-true (length bytes) len is in
-          told.short [] bytes refl (λ others le. exact_ends others (omega (arith, few, le))) (λ others le. stops others (omega (arith, few, le)))
+          told.short len [] bytes refl field.begins few (λ others le. exact_ends others (omega (arith, few, le))) (λ others le. stops others (omega (arith, few, le)))
       by_test false is =
           let enough = length-take-le len bytes (ltb-false (length bytes) len is) in
           told.read (value (take len bytes)) (take len bytes) (drop len bytes) (sym (take-append-drop len bytes))
           (λ more. takes (take len bytes) more enough) (λ more. takes (take len bytes) more enough)
 
-  pub exact_tells : Tells pair r r
+  pub exact_tells : Tells pair (InBytes len) r r
   exact_tells = record { told = exact_told; opens = exact_ends [] (omega arith); opens_deeper = exact_ends [] (omega arith) }
 
-pub word_tells : Tells pair word_at word_at
+pub word_tells : Tells pair (InBytes 4) word_at word_at
 unfolding word_at
 word_tells =
     exact_tells 4 word_at (from_le_bytes w32) (λ run rest four. word_complete run rest (from_le_bytes w32 run) (record { four = four; value = refl }))
     (λ bytes few. true_test (nat_lt (length bytes) 4) _ _ (lt-ltb (length bytes) 4 few))
 
-pub number_tells : Tells pair number_at number_at
+pub number_tells : Tells pair (InBytes 8) number_at number_at
 unfolding number_at
 number_tells =
     exact_tells 8 number_at (from_le_bytes w64) (λ run rest eight. number_complete run rest eight)
     (λ bytes few. true_test (nat_lt (length bytes) 8) _ _ (lt-ltb (length bytes) 8 few))
 
-pub run_tells : (len : ℕ) → Tells pair (run_at len) (run_at len)
+pub run_tells : (len : ℕ) → Tells pair (InBytes len) (run_at len) (run_at len)
 unfolding run_at
 run_tells len =
     exact_tells len (run_at len) (λ run. run) (λ run rest same. ap (λ n. run_at n (run ++ rest)) (sym same) ∙ run_complete run rest)
@@ -157,23 +159,14 @@ pub data Field {A B : Type 0} (form : A → List ℕ → B) (r : List ℕ → Re
       → ((more : List ℕ) → r ((groups ++ last ∷ []) ++ more) ≡ wrong ((groups ++ last ∷ []) ++ more) BadSize) → Field form r bytes
   broken : AreGroups bytes → r bytes ≡ wrong bytes Short → Field form r bytes
 
-module _ {A B : Type 0} {form : A → List ℕ → B} (r : List ℕ → Result B Wrong) (opens : Ends form r []) (sized : Sized r []) where
-  field_told : (bytes : List ℕ) → Field form r bytes → Told form r r bytes
+module _ {A B : Type 0} {form : A → List ℕ → B} (r : List ℕ → Result B Wrong) (opens : Ends form r []) where
+  field_told : (bytes : List ℕ) → Field form r bytes → Told form InSize r r bytes
   field_told bytes (whole x front rest e takes) = told.read x front rest e takes takes
-  field_told bytes (bad groups last rest e low mark stops) = told.size groups last [] rest e low mark opens sized stops
-  field_told bytes (broken are stops) = told.cut [] bytes refl are opens sized stops
+  field_told bytes (bad groups last rest e low mark stops) = told.size groups last [] rest e field.begins low mark opens stops
+  field_told bytes (broken are stops) = told.cut [] bytes refl field.begins are opens stops
 
-  pub field_tells : ((bytes : List ℕ) → Field form r bytes) → Tells form r r
+  pub field_tells : ((bytes : List ℕ) → Field form r bytes) → Tells form InSize r r
   field_tells fields = record { told = λ bytes. field_told bytes (fields bytes); opens = opens; opens_deeper = opens }
-
--- what is read as a size, and then looked at, begins with one
-pub size_in_front : {B : Type 0} (r : List ℕ → Result B Wrong) (test : List ℕ → ℕ × List ℕ → Result B Wrong) → ((bytes : List ℕ) → r bytes ≡ (size_at bytes >>= test bytes))
-    → (bytes : List ℕ) (y : B) → r bytes ≡ Ok y → HasSizeInFront bytes
-size_in_front r test is_sized bytes y h = by_size (size_at bytes) refl (sym (is_sized bytes) ∙ h)
-  where
-    by_size : (n : Result (ℕ × List ℕ) Wrong) → size_at bytes ≡ n → (n >>= test bytes) ≡ Ok y → HasSizeInFront bytes
-    by_size (Ok n) is goes = let s = (size_reads (length bytes) bytes (omega arith)).sound n is in (s.0, n.1, n.0, s.1, s.2)
-    by_size (Err e) is goes = absurd cc
 
 -- what becomes of a number that a size writes
 pub data Decided {A B : Type 0} (form : A → List ℕ → B) (test : List ℕ → ℕ × List ℕ → Result B Wrong) (n : ℕ) : Type 0 where
@@ -255,10 +248,9 @@ pub bind_assoc : {A B C : Type 0} (r : Result A Wrong) (f : A → Result B Wrong
 bind_assoc (Ok x) f g = refl
 bind_assoc (Err e) f g = refl
 
-pub size_tells : Tells pair size_at size_at
+pub size_tells : Tells pair InSize size_at size_at
 size_tells =
     field_tells size_at (record { value = 0; more = size 0; are = size_are 0; ends = λ rest. size_complete (size 0) rest 0 (size_is 0 (omega arith)) })
-    (size_in_front size_at (λ bytes n. Ok n) (λ bytes. bind_ok (size_at bytes)))
     (sized_field {form = pair} size_at (λ bytes n. Ok n) (λ bytes. bind_ok (size_at bytes)) (λ n. taken n (λ bytes rest. refl)))
 
 pub count_opens : Ends pair count_at []
@@ -273,9 +265,5 @@ count_field =
     by_test n true is = taken n (λ bytes rest. true_test (nat_lt n (2 ^ 31)) _ _ is)
     by_test n false is = turned_down (λ bytes rest. false_test (nat_lt n (2 ^ 31)) _ _ is)
 
-pub count_sized : Sized count_at []
-unfolding count_at
-count_sized = size_in_front count_at (λ bytes n. if nat_lt n.0 (2 ^ 31) then Ok n else wrong bytes BadSize) (λ bytes. refl)
-
-pub count_tells : Tells pair count_at count_at
-count_tells = field_tells count_at count_opens count_sized count_field
+pub count_tells : Tells pair InSize count_at count_at
+count_tells = field_tells count_at count_opens count_field

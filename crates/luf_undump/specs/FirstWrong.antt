@@ -3,7 +3,8 @@ use Rattle.std.specs.Prelude.{◌≡◌, ℕ, suc, ◌<◌, ◌≤◌, List, [],
 use Rattle.std.specs.List.{AllByRecursion}
 use Rattle.luf_proto.specs.Chunk.{header}
 use Rattle.luf_proto.specs.Function.{Function}
-use Rattle.luf_undump.specs.Grammar.{IsChunkOf, IsCountOf, IsFunctionOf, IsSizeOf}
+use Rattle.luf_undump.specs.Field.{InChunk, a_size, some_bytes}
+use Rattle.luf_undump.specs.Grammar.{IsChunkOf, IsCountOf, IsFunctionOf}
 use Rattle.luf_undump.specs.Reading.{most_levels}
 use Rattle.luf_undump.specs.declared.error.ChunkWhat.{ChunkWhat}
 use Rattle.luf_undump.specs.declared.error.ChunkWhat.TheVariants.{BadHeader, Short, BadSize, BadTag, Nested, Trailing}
@@ -25,13 +26,6 @@ Begins front = (more : List ℕ) × (f : Function) × AreBytes more × IsChunkOf
 abbrev pub BeginsNone : List ℕ → Type 0
 BeginsNone front = (more : List ℕ) (f : Function) → IsChunkOf (front ++ more) f → ⊥
 
-abbrev pub HasSizeInFront : List ℕ → Type 0
-HasSizeInFront bytes = (size rest : List ℕ) × (n : ℕ) × (bytes ≡ size ++ rest) × IsSizeOf size n
-
--- a size is next: each chunk that begins so goes on with one
-abbrev pub WantsSize : List ℕ → Type 0
-WantsSize front = (more : List ℕ) (f : Function) → IsChunkOf (front ++ more) f → HasSizeInFront more
-
 -- a chunk, but that functions may stand one level deeper
 pub data IsDeeperChunkOf : List ℕ → Function → Type 0 where
   deeper_chunk : (upvalues : ℕ) (main : List ℕ) (f : Function) → IsFunctionOf (suc most_levels) (Some upvalues) main f → IsDeeperChunkOf (header ++ upvalues ∷ main) f
@@ -47,18 +41,18 @@ pub data IsFirstWrong : List ℕ → ℕ → ChunkWhat → Type 0 where
   bad_header : (front others rest : List ℕ) (byte wanted : ℕ) → header ≡ front ++ wanted ∷ others → (byte ≡ wanted → ⊥) → Begins front → BeginsNone (front ++ byte ∷ [])
       → IsFirstWrong (front ++ byte ∷ rest) (length front) BadHeader
   -- a tag, a flag or a kind, which all could be 0
-  bad_tag : (front rest : List ℕ) (byte : ℕ) → length header ≤ length front → Begins (front ++ 0 ∷ []) → BeginsNone (front ++ byte ∷ [])
+  bad_tag : (front rest : List ℕ) (byte : ℕ) → length header ≤ length front → InChunk front (some_bytes 1) → Begins (front ++ 0 ∷ []) → BeginsNone (front ++ byte ∷ [])
       → IsFirstWrong (front ++ byte ∷ rest) (length front) BadTag
   -- a size as far as its mark
-  bad_size : (front groups rest : List ℕ) (last : ℕ) → length header ≤ length front → AreGroups groups → 128 ≤ last → Begins front → WantsSize front → BeginsNone (front ++ groups ++ last ∷ [])
+  bad_size : (front groups rest : List ℕ) (last : ℕ) → AreGroups groups → 128 ≤ last → InChunk front a_size → Begins front → BeginsNone (front ++ groups ++ last ∷ [])
       → IsFirstWrong (front ++ groups ++ last ∷ rest) (length front) BadSize
   -- a size that the bytes end in
-  short_size : (front groups : List ℕ) → length header ≤ length front → AreGroups groups → Begins front → WantsSize front → IsFirstWrong (front ++ groups) (length front) Short
-  -- any other field that the bytes end in: as many bytes as are left, or fewer, whichever they are, begin a chunk and are none
-  short_bytes : (front rest : List ℕ) → ((others : List ℕ) → length others ≤ length rest → Begins (front ++ others))
+  short_size : (front groups : List ℕ) → AreGroups groups → InChunk front a_size → Begins front → IsFirstWrong (front ++ groups) (length front) Short
+  -- another field that the bytes end in: whatever stands there in place of what is left of it, a chunk begins so
+  short_bytes : (front rest : List ℕ) (n : ℕ) → length rest < n → InChunk front (some_bytes n) → ((others : List ℕ) → length others ≤ length rest → Begins (front ++ others))
       → ((others : List ℕ) (f : Function) → length others ≤ length rest → IsChunkOf (front ++ others) f → ⊥) → IsFirstWrong (front ++ rest) (length front) Short
   -- a count of functions where none may be: they would be too deep, by one level. Nested is told behind the count, where the first of them is to begin
-  too_deep : (front count rest : List ℕ) (n : ℕ) → IsCountOf count (suc n) → Begins front → WantsSize front → BeginsNone (front ++ count) → BeginsDeeper (front ++ count)
+  too_deep : (front count rest : List ℕ) (n : ℕ) → IsCountOf count (suc n) → InChunk front a_size → Begins front → BeginsNone (front ++ count) → BeginsDeeper (front ++ count)
       → IsFirstWrong (front ++ count ++ rest) (length (front ++ count)) Nested
   -- a byte behind a chunk
   byte_behind : (front rest : List ℕ) (byte : ℕ) (f : Function) → IsChunkOf front f → BeginsNone (front ++ byte ∷ []) → IsFirstWrong (front ++ byte ∷ rest) (length front) Trailing
