@@ -1,5 +1,5 @@
 -- What a part of the reader takes, whatever stands behind it, is what the grammar says of that part.
-use Rattle.std.proofs.Common.{◌≡◌, ℕ, ◌+◌, ◌≤◌, Bool, List, [], ◌∷◌, ◌++◌, length, Option, Result, Ok, refl, sym, ◌∙◌, subst, arith}
+use Rattle.std.proofs.Common.{◌≡◌, ℕ, ◌≤◌, Bool, List, [], ◌++◌, length, Option, Result, sym, ◌∙◌, subst, arith}
 use Rattle.std.proofs.lemmas.List.{append-nil}
 use Rattle.luf_undump.specs.Field.{IsByte, IsFlag}
 use Rattle.luf_undump.specs.Grammar.{IsCountOf, IsDebugList, IsListOf, IsSizeOf}

@@ -1,6 +1,6 @@
 -- What a part of the reader tells of any bytes: what it reads of them, or the field that is wrong, with what stands before it and
 -- how the part could go on there. Such parts join, one behind the other.
-use Rattle.std.proofs.Common.{◌≡◌, ℕ, zero, suc, ◌<◌, ◌≤◌, List, [], ◌∷◌, ◌++◌, length, Result, Ok, Err, refl, sym, ap, ◌∙◌, subst, append_assoc}
+use Rattle.std.proofs.Common.{◌≡◌, ℕ, zero, suc, ◌<◌, ◌≤◌, List, [], ◌∷◌, ◌++◌, length, Result, Ok, refl, sym, ap, ◌∙◌, subst, append_assoc}
 use Rattle.luf_undump.specs.Field.{InMany, Kind, Such, Then, a_size, some_bytes}
 use Rattle.luf_undump.specs.Field as field
 use Rattle.luf_undump.specs.FirstWrong.{AreBytes, AreGroups}

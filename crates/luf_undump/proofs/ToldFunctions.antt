@@ -1,6 +1,5 @@
 -- What a function tells of any bytes, and all of a chunk behind its header.
-use Rattle.std.proofs.Common.{◌≡◌, ℕ, ◌≤◌, zero, suc, false, List, [], ◌∷◌, ◌++◌, length, Option, Some, None, Result, Ok, refl, sym, ap, ◌∙◌, subst, arith}
-use Rattle.std.proofs.lemmas.List.{append-nil}
+use Rattle.std.proofs.Common.{◌≡◌, ℕ, ◌≤◌, zero, suc, false, List, [], ◌∷◌, length, Option, Some, None, Result, Ok, refl, sym, ap, arith}
 use Rattle.luf_proto.specs.Chunk.{Fits, groups, function_bytes, size}
 use Rattle.luf_proto.specs.Function.{Function, function, no_functions}
 use Rattle.luf_proto.specs.FunctionOf.{functions_of}

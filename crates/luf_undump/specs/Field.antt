@@ -1,7 +1,7 @@
 -- The fields of a chunk, by its grammar: in each part, what field is the next behind some of its bytes.
-use Rattle.std.specs.Prelude.{◌≡◌, ℕ, zero, suc, ◌-◌, Bool, List, [], ◌∷◌, ◌++◌, Option, Some, None}
+use Rattle.std.specs.Prelude.{◌≡◌, ℕ, zero, suc, ◌-◌, Bool, List, [], ◌∷◌, ◌++◌, None}
 use Rattle.luf_proto.specs.Chunk.{bit, header}
-use Rattle.luf_undump.specs.Grammar.{AreDistances, IsConstantOf, IsCountOf, IsDebugList, IsDebugLocal, IsDebugPart, IsDebugString, IsFunctionOf, IsHeadOf, IsInstructionOf, IsListOf, IsPair, IsSizeOf, IsUpvalueOf}
+use Rattle.luf_undump.specs.Grammar.{AreDistances, IsConstantOf, IsCountOf, IsDebugList, IsDebugLocal, IsDebugString, IsFunctionOf, IsHeadOf, IsInstructionOf, IsListOf, IsPair, IsSizeOf, IsUpvalueOf}
 use Rattle.luf_undump.specs.Reading.{most_levels}
 
 -- a field is a size, or so many bytes
