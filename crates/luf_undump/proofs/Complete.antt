@@ -26,15 +26,15 @@ module _ {A B : Type 0} where
   pub reads_at : (read : List ℕ → Result A Wrong) (f : A → Result B Wrong) (bytes same : List ℕ) (x : A) (y : B) → bytes ≡ same → read same ≡ Ok x → f x ≡ Ok y → (read bytes >>= f) ≡ Ok y
   reads_at read f bytes same x y e is goes = reads_on (read bytes) f x y (ap read e ∙ is) goes
 
-true_test : {A : Type 0} (b : Bool) (r s : A) → b ≡ true → (if b then r else s) ≡ r
+pub true_test : {A : Type 0} (b : Bool) (r s : A) → b ≡ true → (if b then r else s) ≡ r
 true_test b r s e = rw e refl
 
-false_test : {A : Type 0} (b : Bool) (r s : A) → b ≡ false → (if b then r else s) ≡ s
+pub false_test : {A : Type 0} (b : Bool) (r s : A) → b ≡ false → (if b then r else s) ≡ s
 false_test b r s e = rw e refl
 
 -- ---- single fields
 
-flag_complete : (b : Bool) (rest : List ℕ) → flag_at (bit b ∷ rest) ≡ Ok (b, rest)
+pub flag_complete : (b : Bool) (rest : List ℕ) → flag_at (bit b ∷ rest) ≡ Ok (b, rest)
 unfolding flag_at byte_at
 flag_complete false rest = refl
 flag_complete true rest = refl
@@ -43,18 +43,18 @@ kind_complete : (kind : ℕ) (rest : List ℕ) → kind ≤ 3 → kind_at (kind 
 unfolding kind_at byte_at
 kind_complete kind rest low = true_test (nat_le kind 3) _ _ (le-leb kind 3 low)
 
-fixed_complete : (wanted rest : List ℕ) → fixed_at wanted (wanted ++ rest) ≡ Ok rest
+pub fixed_complete : (wanted rest : List ℕ) → fixed_at wanted (wanted ++ rest) ≡ Ok rest
 unfolding fixed_at fixed_byte_at
 fixed_complete [] rest = refl
 fixed_complete (wanted ∷ others) rest = reads_on _ _ (others ++ rest) rest (true_test (wanted == wanted) _ _ (eq-eqb wanted wanted refl)) (fixed_complete others rest)
 
-run_complete : (run rest : List ℕ) → run_at (length run) (run ++ rest) ≡ Ok (run, rest)
+pub run_complete : (run rest : List ℕ) → run_at (length run) (run ++ rest) ≡ Ok (run, rest)
 unfolding run_at
 run_complete run rest =
     false_test (nat_lt (length (run ++ rest)) (length run)) _ _ (le-ltb (length (run ++ rest)) (length run) (omega (arith, length-append run rest)))
     ∙ ap (λ (x : List ℕ × List ℕ). Ok x) (rw (take-append_seam run rest, drop-append_seam run rest) refl)
 
-word_complete : (bytes rest : List ℕ) (word : ℕ) → IsInstructionOf bytes word → word_at (bytes ++ rest) ≡ Ok (word, rest)
+pub word_complete : (bytes rest : List ℕ) (word : ℕ) → IsInstructionOf bytes word → word_at (bytes ++ rest) ≡ Ok (word, rest)
 unfolding word_at
 word_complete bytes rest word is =
     let front : take 4 (bytes ++ rest) ≡ bytes = ap (λ n. take n (bytes ++ rest)) (sym is.four) ∙ take-append_seam bytes rest in
@@ -62,7 +62,7 @@ word_complete bytes rest word is =
     false_test (nat_lt (length (bytes ++ rest)) 4) _ _ (le-ltb (length (bytes ++ rest)) 4 (omega (arith, is.four, length-append bytes rest)))
     ∙ ap (λ (x : ℕ × List ℕ). Ok x) (rw (front, back, is.value) refl)
 
-number_complete : (bytes rest : List ℕ) → length bytes ≡ 8 → number_at (bytes ++ rest) ≡ Ok (from_le_bytes w64 bytes, rest)
+pub number_complete : (bytes rest : List ℕ) → length bytes ≡ 8 → number_at (bytes ++ rest) ≡ Ok (from_le_bytes w64 bytes, rest)
 unfolding number_at
 number_complete bytes rest eight =
     let front : take 8 (bytes ++ rest) ≡ bytes = ap (λ n. take n (bytes ++ rest)) (sym eight) ∙ take-append_seam bytes rest in
@@ -72,7 +72,7 @@ number_complete bytes rest eight =
 
 -- ---- sizes
 
-groups_end : (groups : List ℕ) (last : ℕ) (rest : List ℕ) → AllByRecursion (λ group. group < 128) groups → 128 ≤ last → prefix_len is_group (groups ++ last ∷ rest) ≡ length groups
+pub groups_end : (groups : List ℕ) (last : ℕ) (rest : List ℕ) → AllByRecursion (λ group. group < 128) groups → 128 ≤ last → prefix_len is_group (groups ++ last ∷ rest) ≡ length groups
 groups_end [] last rest low mark = false_test (nat_lt last 128) _ _ (le-ltb last 128 mark)
 groups_end (group ∷ groups) last rest low mark =
     true_test (nat_lt group 128) _ _ (lt-ltb group 128 low.0) ∙ ap (λ n. 1 + n) (groups_end groups last rest low.1 mark) ∙ one
@@ -80,13 +80,13 @@ groups_end (group ∷ groups) last rest low mark =
     one : 1 + length groups ≡ suc (length groups)
     one = omega arith
 
-last_group_complete : (bytes groups : List ℕ) (last : ℕ) (rest : List ℕ) → begins_with_zero groups ≡ false → value_of_groups groups < 2 ^ 57
+pub last_group_complete : (bytes groups : List ℕ) (last : ℕ) (rest : List ℕ) → begins_with_zero groups ≡ false → value_of_groups groups < 2 ^ 57
     → last_group_at bytes groups (last ∷ rest) ≡ Ok (value_of_groups groups * 128 + last % 128, rest)
 unfolding last_group_at
 last_group_complete bytes groups last rest no_zero fits =
     false_test (begins_with_zero groups) _ _ no_zero ∙ true_test (nat_lt (value_of_groups groups) (2 ^ 57)) _ _ (lt-ltb (value_of_groups groups) (2 ^ 57) fits)
 
-size_complete : (bytes rest : List ℕ) (n : ℕ) → IsSizeOf bytes n → size_at (bytes ++ rest) ≡ Ok (n, rest)
+pub size_complete : (bytes rest : List ℕ) (n : ℕ) → IsSizeOf bytes n → size_at (bytes ++ rest) ≡ Ok (n, rest)
 unfolding size_at
 size_complete bytes rest n is =
     let whole : bytes ++ rest ≡ is.groups ++ is.last ∷ rest = ap (λ b. b ++ rest) is.written ∙ append_assoc is.groups (is.last ∷ []) rest in
@@ -97,7 +97,7 @@ size_complete bytes rest n is =
     let below = is.within in
     rw (front, back) (last_group_complete (bytes ++ rest) is.groups is.last rest is.no_zero (omega arith) ∙ ap (λ k. Ok (k, rest)) (sym is.value))
 
-count_complete : (bytes rest : List ℕ) (n : ℕ) → IsCountOf bytes n → count_at (bytes ++ rest) ≡ Ok (n, rest)
+pub count_complete : (bytes rest : List ℕ) (n : ℕ) → IsCountOf bytes n → count_at (bytes ++ rest) ≡ Ok (n, rest)
 unfolding count_at
 count_complete bytes rest n is = reads_on _ _ (n, rest) (n, rest) (size_complete bytes rest n is.size) (true_test (nat_lt n (2 ^ 31)) _ _ (lt-ltb n (2 ^ 31) is.below))
 
@@ -197,7 +197,7 @@ unfolding upvalue_at byte_at
 upvalue_complete bytes rest u (grammar.upvalue instack idx kind low) =
     reads_on _ _ (instack, idx ∷ kind ∷ rest) _ (flag_complete instack (idx ∷ kind ∷ rest)) (reads_on _ _ (kind, rest) _ (kind_complete kind rest low) refl)
 
-upvalue_count_complete : (main : Option ℕ) (count rest : List ℕ) (n : ℕ) → IsCountOf count n → CanHaveUpvalues main n → upvalue_count_at main (count ++ rest) ≡ Ok (n, rest)
+pub upvalue_count_complete : (main : Option ℕ) (count rest : List ℕ) (n : ℕ) → IsCountOf count n → CanHaveUpvalues main n → upvalue_count_at main (count ++ rest) ≡ Ok (n, rest)
 unfolding upvalue_count_at
 upvalue_count_complete None count rest n is few = reads_on _ _ (n, rest) _ (count_complete count rest n is) (true_test (nat_le n 255) _ _ (le-leb n 255 few))
 upvalue_count_complete (Some wanted) count rest n is same = reads_on _ _ (n, rest) _ (count_complete count rest n is) (true_test (n == wanted) _ _ (eq-eqb n wanted same))
@@ -243,7 +243,7 @@ around_complete levels main bytes rest f within
     (listed_on (IsFunctionOf levels None) (function_at levels None) within inside (debug ++ rest) functions _ _ are_inside
     (reads_on _ _ rest _ (debug_complete debug rest is_debug) refl)))))
 
-function_complete : (levels : ℕ) (main : Option ℕ) (bytes rest : List ℕ) (f : Function) → IsFunctionOf levels main bytes f → function_at levels main (bytes ++ rest) ≡ Ok (f, rest)
+pub function_complete : (levels : ℕ) (main : Option ℕ) (bytes rest : List ℕ) (f : Function) → IsFunctionOf levels main bytes f → function_at levels main (bytes ++ rest) ≡ Ok (f, rest)
 function_complete zero main bytes rest f is = absurd is
 function_complete (suc levels) main bytes rest f is = around_complete levels main bytes rest f (function_complete levels None) is
 

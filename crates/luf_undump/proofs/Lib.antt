@@ -1,7 +1,13 @@
 pub mod Complete
+pub mod FirstWrong
 pub mod Fixed
 pub mod Groups
 pub mod Loop
 pub mod OneAnswer
 pub mod Sound
+pub mod Taken
+pub mod Told
+pub mod ToldFields
+pub mod ToldFunctions
+pub mod ToldParts
 pub mod Written

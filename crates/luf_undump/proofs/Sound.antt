@@ -134,7 +134,7 @@ run_reads len limit bytes le =
     either (nat_lt (length bytes) len) limit [] bytes (λ _. refuses limit [] bytes bytes Short le)
     (λ enough. gives limit [] bytes (take len bytes) (take len bytes, drop len bytes) (sym (take-append-drop len bytes)) (refl, length-take-le len bytes (ltb-false (length bytes) len enough)))
 
-word_reads : (limit : ℕ) (bytes : List ℕ) → length bytes ≤ limit → Reads behind (Writes IsInstructionOf) limit [] bytes (word_at bytes)
+pub word_reads : (limit : ℕ) (bytes : List ℕ) → length bytes ≤ limit → Reads behind (Writes IsInstructionOf) limit [] bytes (word_at bytes)
 unfolding word_at
 word_reads limit bytes le =
     either (nat_lt (length bytes) 4) limit [] bytes (λ _. refuses limit [] bytes bytes Short le)
@@ -151,11 +151,11 @@ number_reads limit bytes le =
 -- ---- sizes
 
 -- the groups in front, and the byte behind them
-record Grouped (bytes : List ℕ) (n : ℕ) : Type 0 where
-  low : AllByRecursion (λ group. group < 128) (take n bytes)
-  mark : (last : ℕ) (rest : List ℕ) → drop n bytes ≡ last ∷ rest → 128 ≤ last
+pub record Grouped (bytes : List ℕ) (n : ℕ) : Type 0 where
+  pub low : AllByRecursion (λ group. group < 128) (take n bytes)
+  pub mark : (last : ℕ) (rest : List ℕ) → drop n bytes ≡ last ∷ rest → 128 ≤ last
 
-grouped : (bytes : List ℕ) → Grouped bytes (prefix_len is_group bytes)
+pub grouped : (bytes : List ℕ) → Grouped bytes (prefix_len is_group bytes)
 grouped [] = record { low = tt; mark = λ last rest h. absurd cc }
 grouped (byte ∷ bytes) = by_test (nat_lt byte 128) refl (grouped bytes)
   where
@@ -201,7 +201,7 @@ count_reads limit bytes le =
 
 -- ---- lists
 
-many_reads : {A : Type 0} (Is : List ℕ → A → Type 0) (item_at : List ℕ → Result (A × List ℕ) Wrong) (limit : ℕ)
+pub many_reads : {A : Type 0} (Is : List ℕ → A → Type 0) (item_at : List ℕ → Result (A × List ℕ) Wrong) (limit : ℕ)
     → ((bytes : List ℕ) → length bytes ≤ limit → Reads behind (Writes Is) limit [] bytes (item_at bytes))
     → (n : ℕ) (bytes : List ℕ) → length bytes ≤ limit → Reads behind (λ front x. AreEach Is front x.0 × (length x.0 ≡ n)) limit [] bytes (many_at item_at n bytes)
 unfolding many_at
@@ -211,7 +211,7 @@ many_reads Is item_at limit item (suc n) bytes le =
     andlast limit front first.1 (many_at item_at n first.1) _ within (many_reads Is item_at limit item n first.1 within) (λ others. refl)
     (λ others rest are. (grammar.more front rest first.0 others.0 is are.0, ap suc are.1)))
 
-skip_reads : (Is : List ℕ → Type 0) (item_at : List ℕ → Result (List ℕ) Wrong) (limit : ℕ)
+pub skip_reads : (Is : List ℕ → Type 0) (item_at : List ℕ → Result (List ℕ) Wrong) (limit : ℕ)
     → ((bytes : List ℕ) → length bytes ≤ limit → Reads itself (Skips Is) limit [] bytes (item_at bytes))
     → (n : ℕ) (bytes : List ℕ) → length bytes ≤ limit → Reads itself (Skips (AreSome Is n)) limit [] bytes (skip_at item_at n bytes)
 unfolding skip_at
@@ -222,7 +222,7 @@ skip_reads Is item_at limit item (suc n) bytes le =
 
 -- ---- what only debugging reads
 
-debug_string_reads : (limit : ℕ) (bytes : List ℕ) → length bytes ≤ limit → Reads itself (Skips IsDebugString) limit [] bytes (debug_string_at bytes)
+pub debug_string_reads : (limit : ℕ) (bytes : List ℕ) → length bytes ≤ limit → Reads itself (Skips IsDebugString) limit [] bytes (debug_string_at bytes)
 unfolding debug_string_at
 debug_string_reads limit bytes le =
     andthen limit [] bytes (size_at bytes) _ le (size_reads limit bytes le) (λ n front within is.
@@ -233,19 +233,19 @@ debug_string_reads limit bytes le =
     of_size zero size (x ∷ s) is len = absurd (omega (arith, len))
     of_size (suc n) size s is len = grammar.present size s (subst (λ k. IsSizeOf size k) (omega (arith, len)) is)
 
-pair_reads : (limit : ℕ) (bytes : List ℕ) → length bytes ≤ limit → Reads itself (Skips IsPair) limit [] bytes (line_at bytes)
+pub pair_reads : (limit : ℕ) (bytes : List ℕ) → length bytes ≤ limit → Reads itself (Skips IsPair) limit [] bytes (line_at bytes)
 unfolding line_at
 pair_reads limit bytes le =
     andthen limit [] bytes (count_at bytes) _ le (count_reads limit bytes le) (λ m first within is_first.
     andlast limit first m.1 (count_at m.1) _ within (count_reads limit m.1 within) (λ n. refl) (λ n second is_second. grammar.pair first second m.0 n.0 is_first is_second))
 
-local_reads : (limit : ℕ) (bytes : List ℕ) → length bytes ≤ limit → Reads itself (Skips IsDebugLocal) limit [] bytes (local_at bytes)
+pub local_reads : (limit : ℕ) (bytes : List ℕ) → length bytes ≤ limit → Reads itself (Skips IsDebugLocal) limit [] bytes (local_at bytes)
 unfolding local_at
 local_reads limit bytes le =
     andthen limit [] bytes (debug_string_at bytes) _ le (debug_string_reads limit bytes le) (λ rest name within named.
     under limit name rest (line_at rest) (pair_reads limit rest within) (λ _ active is. grammar.local name active named is))
 
-distances_reads : (limit : ℕ) (bytes : List ℕ) → length bytes ≤ limit → Reads itself (Skips AreDistances) limit [] bytes (distances_at bytes)
+pub distances_reads : (limit : ℕ) (bytes : List ℕ) → length bytes ≤ limit → Reads itself (Skips AreDistances) limit [] bytes (distances_at bytes)
 unfolding distances_at
 distances_reads limit bytes le =
     andthen limit [] bytes (count_at bytes) _ le (count_reads limit bytes le) (λ n count within is.
@@ -264,7 +264,7 @@ module _ {B : Type 0} {next : B → List ℕ} {Whole : List ℕ → B → Type 0
       andthen limit (so_far ++ count) n.1 (skip_at item_at n.0 n.1) _ within (skip_reads Is item_at limit item n.0 n.1 within) (λ rest items inside are.
       subst (λ b. Reads next Whole limit b rest (f rest)) (sym (append_assoc so_far count items)) (k (count ++ items) rest inside (grammar.debug_list n.0 count items is are))))
 
-debug_reads : (limit : ℕ) (bytes : List ℕ) → length bytes ≤ limit → Reads itself (Skips IsDebugPart) limit [] bytes (debug_at bytes)
+pub debug_reads : (limit : ℕ) (bytes : List ℕ) → length bytes ≤ limit → Reads itself (Skips IsDebugPart) limit [] bytes (debug_at bytes)
 unfolding debug_at
 debug_reads limit bytes le =
     andthen limit [] bytes (distances_at bytes) _ le (distances_reads limit bytes le) (λ rest distances within are.
@@ -309,12 +309,12 @@ tagged_reads limit bytes tag rest le within =
     (λ x front is. rw (eqb-true tag 20 t, is.2, is.5) (grammar.long_string is.0 is.1 is.3 (ltb-true most_short (length is.1) is.4)))) (λ _.
     refuses limit (tag ∷ []) rest bytes BadTag le)))))))
 
-constant_reads : (limit : ℕ) (bytes : List ℕ) → length bytes ≤ limit → Reads behind (Writes IsConstantOf) limit [] bytes (constant_at bytes)
+pub constant_reads : (limit : ℕ) (bytes : List ℕ) → length bytes ≤ limit → Reads behind (Writes IsConstantOf) limit [] bytes (constant_at bytes)
 unfolding constant_at
 constant_reads limit bytes le =
     andthen_told limit [] bytes (byte_at bytes) _ (λ x. x.0 ∷ []) le (byte_reads limit bytes le) (λ tag within. tagged_reads limit bytes tag.0 tag.1 le within)
 
-upvalue_reads : (limit : ℕ) (bytes : List ℕ) → length bytes ≤ limit → Reads behind (Writes IsUpvalueOf) limit [] bytes (upvalue_at bytes)
+pub upvalue_reads : (limit : ℕ) (bytes : List ℕ) → length bytes ≤ limit → Reads behind (Writes IsUpvalueOf) limit [] bytes (upvalue_at bytes)
 unfolding upvalue_at
 upvalue_reads limit bytes le =
     andthen_told limit [] bytes (flag_at bytes) _ (λ x. bit x.0 ∷ []) le (flag_reads limit bytes le) (λ instack in_flag.
@@ -322,7 +322,7 @@ upvalue_reads limit bytes le =
     andlast limit (bit instack.0 ∷ idx.0 ∷ []) idx.1 (kind_at idx.1) _ in_idx (kind_reads limit idx.1 in_idx) (λ kind. refl)
     (λ kind front is. rw is.0 (grammar.upvalue instack.0 idx.0 kind.0 is.1))))
 
-upvalue_count_reads : (main : Option ℕ) (limit : ℕ) (bytes : List ℕ) → length bytes ≤ limit
+pub upvalue_count_reads : (main : Option ℕ) (limit : ℕ) (bytes : List ℕ) → length bytes ≤ limit
     → Reads behind (λ front x. IsCountOf front x.0 × CanHaveUpvalues main x.0) limit [] bytes (upvalue_count_at main bytes)
 unfolding upvalue_count_at
 upvalue_count_reads None limit bytes le =
@@ -337,7 +337,7 @@ upvalue_count_reads (Some wanted) limit bytes le =
 three_bytes : (front : List ℕ) (a b c : ℕ) → front ++ a ∷ [] ++ b ∷ [] ++ c ∷ [] ≡ front ++ a ∷ b ∷ c ∷ []
 three_bytes front a b c = simp append_assoc
 
-head_reads : (limit : ℕ) (bytes : List ℕ) → length bytes ≤ limit → Reads behind (Writes IsHeadOf) limit [] bytes (head_at bytes)
+pub head_reads : (limit : ℕ) (bytes : List ℕ) → length bytes ≤ limit → Reads behind (Writes IsHeadOf) limit [] bytes (head_at bytes)
 unfolding head_at
 head_reads limit bytes le =
     andthen limit [] bytes (debug_string_at bytes) _ le (debug_string_reads limit bytes le) (λ rest source in_source is_source.
@@ -367,7 +367,7 @@ module _ {A B : Type 0} {next : B → List ℕ} {Whole : List ℕ → B → Type
       andthen limit so_far bytes (count_at bytes) _ le (count_reads limit bytes le) (λ n count within is.
       listed_from so_far count n.1 n.0 f is within (λ front xs inside len are. k front xs inside are))
 
-function_reads : (levels : ℕ) (main : Option ℕ) (limit : ℕ) (bytes : List ℕ) → length bytes ≤ limit
+pub function_reads : (levels : ℕ) (main : Option ℕ) (limit : ℕ) (bytes : List ℕ) → length bytes ≤ limit
     → Reads behind (Writes (IsFunctionOf levels main)) limit [] bytes (function_at levels main bytes)
 unfolding function_at
 function_reads zero main limit bytes le = refuses limit [] bytes bytes Nested le

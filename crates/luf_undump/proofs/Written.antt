@@ -44,7 +44,7 @@ groups_value (suc k) n = by_test (n / 2 ^ (7 * k) == 0) refl (groups_value k n)
         let same : n / 2 ^ (7 * suc k) * 128 + n / 2 ^ (7 * k) % 128 ≡ n / 2 ^ (7 * k) = omega arith in
         subst (λ v. fold (λ value group. value * 128 + group) v (groups k n) ≡ n) (sym same) so_far
 
-groups_low : (k n : ℕ) → AllByRecursion (λ group. group < 128) (groups k n)
+pub groups_low : (k n : ℕ) → AllByRecursion (λ group. group < 128) (groups k n)
 unfolding groups
 groups_low zero n = tt
 groups_low (suc k) n = by_test (n / 2 ^ (7 * k) == 0) (groups_low k n)
@@ -82,7 +82,7 @@ size_is n within =
       within = within;
     }
 
-count_is : (n : ℕ) → n < 2 ^ 31 → IsCountOf (size n) n
+pub count_is : (n : ℕ) → n < 2 ^ 31 → IsCountOf (size n) n
 count_is n low = record { size = size_is n (omega arith); below = low }
 
 -- ---- lists
@@ -155,7 +155,7 @@ no_debug_is =
 mutual
   unfolding list_of
 
-  function_is : (f : Function) (levels : ℕ) (main : Option ℕ) → CanHaveUpvalues main (upvalue_count f) → Fits f → IsReadable f levels → IsFunctionOf levels main (function_bytes f) f
+  pub function_is : (f : Function) (levels : ℕ) (main : Option ℕ) → CanHaveUpvalues main (upvalue_count f) → Fits f → IsReadable f levels → IsFunctionOf levels main (function_bytes f) f
   function_is (function parameters vararg registers code constants upvalues inner line_from line_to) zero main few fits readable = absurd readable
   function_is (function parameters vararg registers code constants upvalues inner line_from line_to) (suc levels) main few fits readable =
       let inner_count : IsCountOf (size (count_of inner)) (length (list_of inner)) = subst (λ n. IsCountOf (size (count_of inner)) n) (counted_same inner) (count_is (count_of inner) fits.0.inner_fit) in

@@ -3,6 +3,7 @@ ghost use Rattle.std.specs.Prelude.{◌≡◌, ◌≤◌, ◌↔◌, ℕ, List, 
 ghost use Rattle.luf_proto.specs.Function.{Function};
 ghost use Rattle.luf_proto.specs.Chunk.{Fits, chunk_bytes};
 ghost use Rattle.luf_undump.specs.Answers.{HasCause};
+ghost use Rattle.luf_undump.specs.FirstWrong.{AreBytes, IsFirstWrong};
 ghost use Rattle.luf_undump.specs.Grammar.{IsChunkOf};
 ghost use Rattle.luf_undump.specs.Readable.{IsReadable};
 ghost use Rattle.luf_undump.specs.Reading.{Wrong, chunk_at, most_levels};
@@ -38,4 +39,9 @@ pub fn one_cause()
 /// A field that is wrong begins among the bytes, or at their end.
 pub fn refused_within()
     ensures { (bytes : List ℕ) (e : Wrong) → chunk_at bytes ≡ Err e → e.left ≤ length bytes }
+{}
+
+/// A field that is wrong is the first with which no chunk goes on: what stands before it begins some chunk.
+pub fn refused_is_first()
+    ensures { (bytes : List ℕ) (at : ℕ) (what : ChunkWhat) → AreBytes bytes → HasCause bytes (Bad at what) → IsFirstWrong bytes at what }
 {}

@@ -16,5 +16,6 @@ mod upvalue;
 pub use chunk::read_chunk;
 pub use error::{ChunkWhat, UndumpErr};
 pub use laws::{
-    chunk_not_refused, one_cause, one_function, read_is_chunk, refused_within, written_is_read,
+    chunk_not_refused, one_cause, one_function, read_is_chunk, refused_is_first, refused_within,
+    written_is_read,
 };
