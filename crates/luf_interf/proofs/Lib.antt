@@ -13,4 +13,12 @@ pub mod Program
 pub mod Resolve
 mod NamesExamples
 pub mod Faults
+pub mod BarredWords
 pub mod Exist
+pub mod Nexts
+pub mod Passing
+pub mod Given
+pub mod Choice
+pub mod Room
+pub mod Giving
+pub mod Reached

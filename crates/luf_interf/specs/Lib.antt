@@ -1,3 +1,4 @@
 pub mod Interference
 pub mod NewNames
 pub mod RenamingLaws
+pub mod inner

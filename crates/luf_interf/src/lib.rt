@@ -2,8 +2,12 @@
 #![tactic(auto)]
 
 mod laws;
+mod maxima;
+mod naming;
+mod uses;
 
 pub use laws::{
     captured_or_alike, least_is_free, least_names_exist, least_names_have_no_fault,
     least_names_keep_jumps, least_names_keep_roles, least_names_resolve_alike, one_naming,
 };
+pub use luf_memory::Memory;
