@@ -1,5 +1,6 @@
 pub mod Among
 pub mod Last
+pub mod Above
 pub mod Tokens
 pub mod NewLocals
 pub mod Alike

@@ -1,2 +1,3 @@
--- What only private functions cite, so that nothing here has to be believed.
+-- What only this crate's own code cites.
+pub mod Maxima
 pub mod Uses

@@ -1,7 +1,8 @@
 -- The alphabet and the places of its letters.
-use Rattle.std.proofs.Common.{◌≡◌, ◌∙◌, sym, ap, refl, ℕ, ◌+◌, ◌<◌, ◌==◌, zero, suc, Bool, true, ◌&&◌, eqb, List, [], ◌∷◌, length, get_or, zero-add, arith}
+use Rattle.std.proofs.Common.{◌≡◌, ◌∙◌, sym, ap, refl, ℕ, ◌+◌, ◌-◌, ◌<◌, ◌==◌, zero, suc, Bool, true, cond, ◌&&◌, eqb, List, [], ◌∷◌, length, get_or, zero-add, ⊎_elim, arith}
+use Rattle.std.specs.Int.{is_in_range}
 use Rattle.std.specs.List.{position_or_len}
-use Rattle.std.proofs.lemmas.Bool.{and_parts, eqb-true}
+use Rattle.std.proofs.lemmas.Bool.{and_parts, eqb-true, cases_lt}
 use Rattle.std.proofs.lemmas.List.Sums.{passes_at_first}
 use Rattle.luf_name.specs.Order.{alphabet, rank, IsLetter}
 
@@ -34,3 +35,26 @@ rank_in_order first (a ∷ letters) (suc k) ordered within =
 pub rank_of_letter : (k : ℕ) → k < 63 → rank (get_or alphabet k 0) ≡ k
 unfolding alphabet rank in_order
 rank_of_letter k within = rank_in_order 0 alphabet k refl within ∙ zero-add k
+
+-- ---- the rank of a byte, read off where it lies
+
+abbrev pub rank_by_bounds : ℕ → ℕ
+rank_by_bounds letter =
+    cond (is_in_range 97 122 letter) (letter - 97) (cond (is_in_range 65 90 letter) (26 + (letter - 65)) (cond (letter == 95) 52 (cond (is_in_range 48 57 letter) (53 + (letter - 48)) 63)))
+
+bytes_agree : ℕ → Bool
+bytes_agree zero = true
+bytes_agree (suc n) = eqb (rank n) (rank_by_bounds n) && bytes_agree n
+
+agree_below : (n : ℕ) → bytes_agree n ≡ true → (letter : ℕ) → letter < n → rank letter ≡ rank_by_bounds letter
+unfolding bytes_agree
+agree_below zero agree letter below = absurd (omega (arith, below))
+agree_below (suc n) agree letter below =
+    let parts = and_parts (eqb (rank n) (rank_by_bounds n)) (bytes_agree n) agree in
+    ⊎_elim (λ less. agree_below n parts.1 letter less) (λ above. let same : letter ≡ n = omega (arith, below, above) in
+    ap rank same ∙ eqb-true (rank n) (rank_by_bounds n) parts.0 ∙ ap rank_by_bounds (sym same)) (cases_lt letter n)
+
+-- the rank of a byte
+pub byte_rank : (letter : ℕ) → letter < 256 → rank letter ≡ rank_by_bounds letter
+unfolding rank alphabet bytes_agree
+byte_rank letter below = agree_below 256 refl letter below

@@ -1,9 +1,10 @@
 // Names and their numbers, and barred names, as they are counted by hand.
-use crate::{is_barred, nth};
+use crate::{is_barred, nth, number_of};
 use std::process::Abort;
 
 fn check_name(rt: &impl Abort, n: u32, spelling: &[u8]) {
     assert_eq!(rt; nth(n).as_slice(), spelling, "at {n}");
+    assert_eq!(rt; number_of(spelling), Some(n), "at {spelling:?}");
 }
 
 #[test]
