@@ -48,7 +48,7 @@ nowhere_at test (x ∷ xs) i is j below = by (test x) refl is j below (nowhere_a
 
 -- ---- which names are used where a local variable is active
 
-parts : (names : List ℕ) (s : Scope) (k : ℕ) (u : Use) → is_used names s k u ≡ true → (s.from ≤ u.token) × (u.token < s.to) × (has_number names k u ≡ true)
+pub parts : (names : List ℕ) (s : Scope) (k : ℕ) (u : Use) → is_used names s k u ≡ true → (s.from ≤ u.token) × (u.token < s.to) × (has_number names k u ≡ true)
 parts names s k u is =
     let both = and_parts (nat_le s.from u.token && nat_lt u.token s.to) (has_number names k u) is in
     let inside = and_parts (nat_le s.from u.token) (nat_lt u.token s.to) both.0 in

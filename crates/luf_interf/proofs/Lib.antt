@@ -23,3 +23,11 @@ pub mod Choice
 pub mod Room
 pub mod Giving
 pub mod Reached
+pub mod OwnersFound
+pub mod LeastLocals
+pub mod OwnersMade
+pub mod Putting
+pub mod Begun
+pub mod ScopesRead
+pub mod ReadBackwards
+pub mod LocalsNamed

@@ -2,8 +2,11 @@
 #![tactic(auto)]
 
 mod laws;
+mod locals;
 mod maxima;
 mod naming;
+mod owners;
+mod scoping;
 mod uses;
 
 pub use laws::{

@@ -112,3 +112,25 @@ pub record AreScopes (uses : List Use) (names firsts : List ℕ) (scopes : List 
   pub rising : AllPairs (λ s t. s.from ≤ t.from) scopes
   pub apart : AllPairs (λ s t. s.local ≡ t.local → ⊥) scopes
   pub each : All (IsScope uses names firsts) scopes
+
+-- the tokens of the first references to local variables
+abbrev pub AreFirsts : List ℕ → List Use → Type 0
+AreFirsts firsts uses = (n : ℕ) → n < length firsts → slice_index_or firsts n nowhere ≡ next_of (is_of n) uses
+
+-- a reference may refer to it before any local variable has a number
+abbrev pub CanStand : List ℕ → ℕ → ℕ → Owner → Type 0
+CanStand names size count (owner.Local n) = (n < count) × (slice_index_or names n nowhere ≡ nowhere)
+CanStand names size count (owner.Free k) = (k < size) × (IsBarredNumber k → ⊥)
+
+-- a reference is put in front
+pub record IsPut (token : ℕ) (what : Owner) (uses more : List Use) : Type 0 where
+  pub first : Use
+  pub is : more ≡ first ∷ uses
+  pub token_is : first.token ≡ token
+  pub owner_is : first.owner ≡ what
+
+-- of so many numbers, 0 at those of barred names below a bound, and nowhere at all others
+pub record AreBarred (size bound : ℕ) (heads : List ℕ) : Type 0 where
+  pub count : length heads ≡ size
+  pub told : (k : ℕ) → k < bound → IsHead [] [] k (slice_index_or heads k 0)
+  pub left : (k : ℕ) → bound ≤ k → k < size → slice_index_or heads k 0 ≡ nowhere
