@@ -14,9 +14,26 @@ pub mod Program
 pub mod Resolve
 mod NamesExamples
 pub mod Faults
+pub mod BarredWords
 pub mod Exist
 pub mod NewWords
 pub mod Named
 pub mod Picked
 pub mod Rows
 pub mod Tables
+pub mod Nexts
+pub mod Passing
+pub mod Given
+pub mod Choice
+pub mod Room
+pub mod Giving
+pub mod Reached
+pub mod OwnersFound
+pub mod LeastLocals
+pub mod OwnersMade
+pub mod Putting
+pub mod Begun
+pub mod ScopesRead
+pub mod ReadBackwards
+pub mod LocalsNamed
+pub mod Told

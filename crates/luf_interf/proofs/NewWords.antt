@@ -141,6 +141,10 @@ module _ (spelled : Spelling) (os : List Occurrence) where
           by None none good = inl (none_new token none)
           by (Some name) is good = inr (subst IsGood (sym (renamed_is token ∙ ap (λ o. unwrap_or o (spelled token)) is)) good)
 
+      -- and each new name may stand there
+      pub good_names : (token : ℕ) (name : List ℕ) → new_name_at spelled os naming label_naming token ≡ Some name → IsGood name
+      good_names token name is = subst AllGood is (good_in (role_of spelled os token) (jump_role_of spelled os token) (jumps_there token))
+
   -- ---- two namings that agree
 
   module _ (naming label_naming other other_labels : Naming) (agree : NamesAgree spelled os naming label_naming other other_labels) where
@@ -228,9 +232,14 @@ module _ (a e c : ℕ) (os : List Occurrence) (lies : AreOrdered a e c os) (spel
       (λ i. name_in spelled os naming label_naming (declaration (declared_at (locals_of spelled os) t) (cond (no_variable i) (reference (meaning (locals_of spelled os) t (spelled t))) (cond (no_field i) role.Field role.Plain))) (label_role (no_label i) (no_goto i)))
       ∙ declared_fixed (declared_at (locals_of spelled os) t) (found (λ v. nat_eq v.token t) (locals_of spelled os))
 
--- where no name stands, the word is the old one
-pub others_kept : (toks : List Tok) (chunk : Chunk) (spelled : Spelling) (naming label_naming : Naming) (token : ℕ) → IsChunk toks chunk → (At toks token tok.Name → ⊥) → renamed spelled (said_in chunk) naming label_naming token ≡ spelled token
-others_kept toks chunk spelled naming label_naming token derived other =
+-- where no name stands, there is no new one
+pub none_elsewhere : (toks : List Tok) (chunk : Chunk) (spelled : Spelling) (naming label_naming : Naming) (token : ℕ) → IsChunk toks chunk → (At toks token tok.Name → ⊥) → new_name_at spelled (said_in chunk) naming label_naming token ≡ None
+none_elsewhere toks chunk spelled naming label_naming token derived other =
     let os = said_in chunk in
     let named = (block_says toks (meanings spelled os) (meanings spelled os) (λ s. refl) (λ i t at is. refl) derived).0.named in
-    none_new spelled os naming label_naming token (none_other 0 (length toks) (length toks) os (block_lies derived) spelled naming label_naming toks named token other)
+    none_other 0 (length toks) (length toks) os (block_lies derived) spelled naming label_naming toks named token other
+
+-- and the word is the old one
+pub others_kept : (toks : List Tok) (chunk : Chunk) (spelled : Spelling) (naming label_naming : Naming) (token : ℕ) → IsChunk toks chunk → (At toks token tok.Name → ⊥) → renamed spelled (said_in chunk) naming label_naming token ≡ spelled token
+others_kept toks chunk spelled naming label_naming token derived other =
+    none_new spelled (said_in chunk) naming label_naming token (none_elsewhere toks chunk spelled naming label_naming token derived other)

@@ -3,3 +3,6 @@ pub mod Maxima
 pub mod LabelRows
 pub mod LabelNumbers
 pub mod LabelNames
+pub mod Owners
+pub mod Uses
+pub mod Told
