@@ -33,10 +33,26 @@ module _ {X : Type 0} (test : X → Bool) where
       by false fails at zero less rest = fails
       by false fails at (suc j) less rest = rest at j (omega (arith, less))
 
+  -- and it passes
+  pub record FirstAt (n : ℕ) (xs : List X) (k : ℕ) (d : X) : Type 0 where
+    pub index : ℕ
+    pub at : k ≡ n + index
+    pub within : index < length xs
+    pub passes : test (get_or xs index d) ≡ true
+
+  pub first_at : (n : ℕ) (xs : List X) (k : ℕ) (d : X) → position_from test n xs ≡ Some k → FirstAt n xs k d
+  first_at n [] k d is = absurd (none-some k is)
+  first_at n (x ∷ xs) k d is = by (test x) refl is (first_at (n + 1) xs k d)
+    where
+      by : (b : Bool) → test x ≡ b → cond b (Some n) (position_from test (n + 1) xs) ≡ Some k → (position_from test (n + 1) xs ≡ Some k → FirstAt (n + 1) xs k d) → FirstAt n (x ∷ xs) k d
+      by true passes at rest = let same : n ≡ k = same_Some n k at in record { index = 0; at = omega (arith, same); within = omega arith; passes = passes }
+      by false fails at rest = let found = rest at in let is_at = found.at in let within = found.within in
+          record { index = suc found.index; at = omega (arith, is_at); within = omega (arith, within); passes = found.passes }
+
 below_fails : (bound n : ℕ) → n < bound → nat_le bound n ≡ false
 below_fails bound n below = grind (arith, nat_tests)
 
-fails_below : (bound n : ℕ) → nat_le bound n ≡ false → n < bound
+pub fails_below : (bound n : ℕ) → nat_le bound n ≡ false → n < bound
 fails_below bound n fails = ⊎_elim (λ same. absurd (both_ways (nat_le bound n) fails (le-leb bound n (omega (arith, same)))))
     (⊎_elim (λ less. absurd (both_ways (nat_le bound n) fails (le-leb bound n (omega (arith, less))))) (λ above. above)) (cases_order bound n)
 

@@ -152,7 +152,7 @@ module _ (a e c : ℕ) (os : List Occurrence) (lies : AreOrdered a e c os) (spel
   no_jump_at t u m has no_label no_goto = λ i. label_role (no_label_at t u m has no_label i) (no_goto_at (labels_of spelled os) t u m has no_goto i)
 
   -- labels are numbered in the order of their tokens
-  labels_rise : (n m : ℕ) (l k : LabelAt) → n < m → IsLabel spelled os n l → IsLabel spelled os m k → l.token < k.token
+  pub labels_rise : (n m : ℕ) (l k : LabelAt) → n < m → IsLabel spelled os n l → IsLabel spelled os m k → l.token < k.token
   labels_rise n m l k below at other = pairs_at (λ x y. x.token < y.token) (labels_of spelled os) n m l k
       (pairs_given Follows (λ x y. x.token < y.token) (label_by spelled (functions_of os))
       (λ u v x y follows one two. let later = follows.later in let first = (label_of spelled (functions_of os) u x one).behind in let second = (label_of spelled (functions_of os) v y two).token in omega (arith, later, first, second)) os lies.pairs) below at other
@@ -172,6 +172,24 @@ module _ (a e c : ℕ) (os : List Occurrence) (lies : AreOrdered a e c os) (spel
       let is : k.0 ≡ f.0 = one a e c os lies g.label k.0 f.0 k.1 f.1 (subst (λ t. Has t k.0) same (has_goto h k.0 k.1 second)) (has_goto g f.0 f.1 first) in
       same_Some h g (sym k.2 ∙ ap (goto_by spelled (functions_of os)) is ∙ f.2)
 
+  module _ (nested : All (λ u. All (AreNestedBlocks u) os) os) where
+    -- of two labels whose blocks hold one place, the block of one holds the other's
+    pub nest : (k l : LabelAt) (p : ℕ) → Among k (labels_of spelled os) → Among l (labels_of spelled os) → (k.from ≤ p) × (p < k.to) → (l.from ≤ p) × (p < l.to) → HoldsBlock k l ⊎ HoldsBlock l k
+    nest k l p m n outward inward =
+        let f = label_from k m in
+        let h = label_from l n in
+        let kf = f.2.from in let kt = f.2.to in let lf = h.2.from in let lt = h.2.to in
+        let outer = all_among (AreNestedBlocks h.0) os f.0 (all_among (λ u. All (AreNestedBlocks u) os) os h.0 nested h.1) f.1 in
+        let inner_one = all_among (AreNestedBlocks f.0) os h.0 (all_among (λ u. All (AreNestedBlocks u) os) os f.0 nested f.1) h.1 in
+        ⊎_elim (λ same. ⊎_elim (λ (e : k.to ≡ l.to). inl (omega (arith, same), omega (arith, e)))
+        (⊎_elim (λ below. inr (omega (arith, same), omega (arith, below))) (λ above. inl (omega (arith, same), omega (arith, above)))) (cases_order k.to l.to))
+        (⊎_elim
+        (λ below. ⊎_elim (λ (within : block_to h.0 ≤ block_to f.0). inl (omega (arith, below), omega (arith, within, kt, lt))) (λ (behind : block_to f.0 ≤ block_from h.0). absurd (omega (arith, behind, kt, lf, outward, inward)))
+        (outer.apart h.2.is f.2.is (omega (arith, below, kf, lf))))
+        (λ above. ⊎_elim (λ (within : block_to f.0 ≤ block_to h.0). inr (omega (arith, above), omega (arith, within, kt, lt))) (λ (behind : block_to h.0 ≤ block_from f.0). absurd (omega (arith, behind, kf, lt, outward, inward)))
+        (inner_one.apart f.2.is h.2.is (omega (arith, above, kf, lf)))))
+        (cases_order k.from l.from)
+
   module _ (naming label_naming : Naming) where
     -- a label and a goto get the new name of the label
     told_label : (n : ℕ) (l : LabelAt) → IsLabel spelled os n l → told a e c os lies spelled naming label_naming l.token ≡ label_naming n
@@ -190,23 +208,6 @@ module _ (a e c : ℕ) (os : List Occurrence) (lies : AreOrdered a e c os) (spel
         λ i. new_word spelled os naming label_naming (plain i) (label_role (no_label_at g.label f.0 f.1 has f.2.no_label i) (at i)) (spelled g.label)
 
     module _ (nested : All (λ u. All (AreNestedBlocks u) os) os) (least : AreLeast spelled os naming label_naming) where
-      -- two labels whose blocks hold one place of one function interfere
-      nest : (k l : LabelAt) (p : ℕ) → Among k (labels_of spelled os) → Among l (labels_of spelled os) → (k.from ≤ p) × (p < k.to) → (l.from ≤ p) × (p < l.to) → HoldsBlock k l ⊎ HoldsBlock l k
-      nest k l p m n outward inward =
-          let f = label_from k m in
-          let h = label_from l n in
-          let kf = f.2.from in let kt = f.2.to in let lf = h.2.from in let lt = h.2.to in
-          let outer = all_among (AreNestedBlocks h.0) os f.0 (all_among (λ u. All (AreNestedBlocks u) os) os h.0 nested h.1) f.1 in
-          let inner_one = all_among (AreNestedBlocks f.0) os h.0 (all_among (λ u. All (AreNestedBlocks u) os) os f.0 nested f.1) h.1 in
-          ⊎_elim (λ same. ⊎_elim (λ (e : k.to ≡ l.to). inl (omega (arith, same), omega (arith, e)))
-          (⊎_elim (λ below. inr (omega (arith, same), omega (arith, below))) (λ above. inl (omega (arith, same), omega (arith, above)))) (cases_order k.to l.to))
-          (⊎_elim
-          (λ below. ⊎_elim (λ (within : block_to h.0 ≤ block_to f.0). inl (omega (arith, below), omega (arith, within, kt, lt))) (λ (behind : block_to f.0 ≤ block_from h.0). absurd (omega (arith, behind, kt, lf, outward, inward)))
-          (outer.apart h.2.is f.2.is (omega (arith, below, kf, lf))))
-          (λ above. ⊎_elim (λ (within : block_to f.0 ≤ block_to h.0). inr (omega (arith, above), omega (arith, within, kt, lt))) (λ (behind : block_to h.0 ≤ block_from f.0). absurd (omega (arith, behind, kf, lt, outward, inward)))
-          (inner_one.apart f.2.is h.2.is (omega (arith, above, kf, lf)))))
-          (cases_order k.from l.from)
-
       held : Option ℕ → ℕ → LabelAt → Bool
       held function p l = option_eq nat_eq l.function function && nat_le l.from p && nat_lt p l.to
 
@@ -219,7 +220,7 @@ module _ (a e c : ℕ) (os : List Occurrence) (lies : AreOrdered a e c os) (spel
           let b2 = and_parts (option_eq nat_eq l.function function) (nat_le l.from p) b1.0 in
           record {
             function = same_option k.function function a2.0 ∙ sym (same_option l.function function b2.0);
-            blocks = nest k l p m n (leb-true k.from p a2.1, ltb-true p k.to a1.1) (leb-true l.from p b2.1, ltb-true p l.to b1.1);
+            blocks = nest nested k l p m n (leb-true k.from p a2.1, ltb-true p k.to a1.1) (leb-true l.from p b2.1, ltb-true p l.to b1.1);
           }
 
       -- and so have other names

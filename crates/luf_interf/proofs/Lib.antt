@@ -31,3 +31,7 @@ pub mod Begun
 pub mod ScopesRead
 pub mod ReadBackwards
 pub mod LocalsNamed
+pub mod Named
+pub mod Picked
+pub mod Rows
+pub mod Tables
