@@ -1,15 +1,13 @@
 -- The first number whose name is not used where a local variable is active.
-use Rattle.std.proofs.Common.{◌≡◌, ℕ, zero, suc, ◌+◌, ◌<◌, ◌≤◌, ◌⊎◌, inl, inr, Bool, true, false, ◌&&◌, ◌||◌, cond, eqb, nat_eq, nat_le, nat_lt, Option, Some, None, List, [], ◌∷◌, ◌++◌, length, get_or, map, refl, sym, ap, subst, ◌∙◌, ⊎_elim, arith}
-use Rattle.std.specs.List.{list_any, position_from}
+use Rattle.std.proofs.Common.{◌≡◌, ℕ, zero, suc, ◌+◌, ◌<◌, ◌≤◌, ◌⊎◌, inl, inr, Bool, true, false, ◌&&◌, cond, nat_le, nat_lt, Some, None, List, [], ◌∷◌, ◌++◌, length, get_or, refl, sym, subst, ⊎_elim, arith}
+use Rattle.std.specs.List.{position_from}
 use Rattle.std.proofs.lemmas.Option.{none-some, same_Some}
-use Rattle.std.proofs.lemmas.List.{length-map, length-append}
-use Rattle.std.proofs.lemmas.Map.Steps.{le-length_from_below}
-use Rattle.std.proofs.lemmas.Bool.{cases_Bool, cond-true, cond-false, ltb-true, lt-ltb, le-leb, leb-true, leb-false, eq-eqb, and_parts, and_from, both_ways, false≢true, false_from_ne_true}
+use Rattle.std.proofs.lemmas.Bool.{ltb-true, lt-ltb, le-leb, leb-true, leb-false, and_parts, and_from}
 use Rattle.luf_interf.specs.declared.uses.Scope.{Scope}
 use Rattle.luf_interf.specs.declared.uses.Use.{Use}
-use Rattle.luf_interf.specs.inner.Uses.{nowhere, IsBarredNumber, number_of, has_number, next_of, IsHead, IsTable, is_used, IsTaken, IsChoice}
-use Rattle.luf_interf.proofs.Among.{Among, here, there, any_among, any_of, any_none}
-use Rattle.luf_interf.proofs.Nexts.{Rising, next_first, next_passes}
+use Rattle.luf_interf.specs.inner.Uses.{nowhere, has_number, IsHead, IsTable, is_used, IsTaken, IsChoice}
+use Rattle.luf_interf.proofs.Among.{Among, here, there, any_among, any_of}
+use Rattle.luf_interf.proofs.Nexts.{next_first, next_passes}
 use Rattle.luf_interf.proofs.Given.{rising}
 
 -- ---- the first place of a list where a test passes

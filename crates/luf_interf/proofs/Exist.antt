@@ -1,5 +1,5 @@
 -- Each source has least names: of the names in their order only so many are taken.
-use Rattle.std.proofs.Common.{◌≡◌, ℕ, zero, suc, ◌+◌, ◌<◌, ◌≤◌, ◌⊎◌, inl, inr, Bool, true, false, cond, eqb, nat_eq, nat_le, Option, Some, None, List, [], ◌∷◌, ◌++◌, map, length, slice_get, bytes_eq, refl, sym, ap, subst, ◌∙◌, ⊎_elim, codes, arith}
+use Rattle.std.proofs.Common.{◌≡◌, ℕ, zero, suc, ◌+◌, ◌<◌, ◌≤◌, ◌⊎◌, inl, inr, Bool, true, false, cond, eqb, nat_eq, nat_le, Option, Some, None, List, [], ◌∷◌, ◌++◌, map, length, slice_get, bytes_eq, refl, sym, ap, subst, ◌∙◌, ⊎_elim, arith}
 use Rattle.std.specs.List.{list_any}
 use Rattle.std.specs.Cmp.Lexicographic.{bytes_decides}
 use Rattle.std.proofs.lemmas.Option.{none-some, same_Some}

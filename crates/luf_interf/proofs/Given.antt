@@ -1,7 +1,7 @@
 -- A table of next uses, when a local variable is given a number.
-use Rattle.std.proofs.Common.{◌≡◌, ℕ, ◌<◌, ◌≤◌, ◌⊎◌, inl, inr, Bool, true, false, ◌||◌, cond, eqb, nat_eq, List, [], ◌∷◌, length, get_or, set, refl, sym, ap, subst, ◌∙◌, ⊎_elim, arith, get_or-set_other, get_or-set_same}
+use Rattle.std.proofs.Common.{◌≡◌, ℕ, ◌<◌, ◌≤◌, ◌⊎◌, inl, inr, Bool, true, false, ◌||◌, cond, nat_eq, List, [], ◌∷◌, length, get_or, set, refl, sym, ap, subst, ◌∙◌, ⊎_elim, arith, get_or-set_other, get_or-set_same}
 use Rattle.std.proofs.lemmas.List.{length-set}
-use Rattle.std.proofs.lemmas.Bool.{cases_Bool, cases_eq, ne_eqb, eq-eqb, eqb-true, eqb-false, cond-true, cond-false, false_from_ne_true}
+use Rattle.std.proofs.lemmas.Bool.{cases_Bool, cases_eq, ne_eqb, eq-eqb, eqb-true, eqb-false, false_from_ne_true}
 use Rattle.luf_interf.specs.declared.uses.Owner.{Owner}
 use Rattle.luf_interf.specs.declared.uses.Owner.TheVariants as owner
 use Rattle.luf_interf.specs.declared.uses.Use.{Use}
@@ -81,9 +81,10 @@ module _ (names behind : List ℕ) (n k h : ℕ) (within : n < length names) (al
     -- where n is nowhere
     linked_away : (us : List Use) → ((u : Use) → Among u us → is_of n u ≡ false) → AreLinked size names behind us → AreLinked size (set names n k) (set behind n h) us
     linked_away [] none linked = tt
-    linked_away (u ∷ us) none linked =
-        (link_other u us (none u here) linked.0 (λ _. next_same (has_number (set names n k) (number_of names u.owner)) (has_number names (number_of names u.owner)) us (λ w m. same_away w (none w (there m)) (number_of names u.owner))),
-        linked_away us (λ w m. none w (there m)) linked.1)
+    linked_away (u ∷ us) none linked = (
+      link_other u us (none u here) linked.0 (λ _. next_same (has_number (set names n k) (number_of names u.owner)) (has_number names (number_of names u.owner)) us (λ w m. same_away w (none w (there m)) (number_of names u.owner))),
+      linked_away us (λ w m. none w (there m)) linked.1,
+    )
 
     -- the next use of k, where n has it too
     next_now : (us : List Use) → AreLinked size names behind us → ((u : Use) → Among u us → is_of n u ≡ true → u.token < to) → to ≤ next_of (has_number names k) us
@@ -141,11 +142,13 @@ given names behind heads us n k to first within also unnamed below some high ins
     record {
       small = omega (arith, few, count);
       tells = λ j small. ⊎_elim
-          (λ e. inr (subst (λ m. IsBarredNumber m → ⊥) (sym e) now.0,
-          ap (λ m. get_or (set heads k put) m 0) e ∙ get_or-set_same heads k put 0 below
-          ∙ (λ i. cond (nat_eq (same i) nowhere) (next i) (same i))
-          ∙ sym (next_now names behind n k h within also unnamed (length heads) to few below now.0 us table.linked inside (omega (arith, high, next)))
-          ∙ ap (λ m. next_of (has_number (set names n k) m) us) (sym e)))
+          (λ e. inr (
+            subst (λ m. IsBarredNumber m → ⊥) (sym e) now.0,
+            ap (λ m. get_or (set heads k put) m 0) e ∙ get_or-set_same heads k put 0 below
+                ∙ (λ i. cond (nat_eq (same i) nowhere) (next i) (same i))
+                ∙ sym (next_now names behind n k h within also unnamed (length heads) to few below now.0 us table.linked inside (omega (arith, high, next)))
+                ∙ ap (λ m. next_of (has_number (set names n k) m) us) (sym e),
+          ))
           (λ other. subst (IsHead (set names n k) us j) (sym (get_or-set_other heads k j put 0 other))
           (head_other names behind n k h within also unnamed (length heads) to few below now.0 us j (get_or heads j 0) (omega (arith, small, count, few)) other (table.tells j (omega (arith, small, count)))))
           (cases_eq j k);

@@ -1,12 +1,12 @@
 -- A table of next uses, when a local variable is given the first number that it can have.
-use Rattle.std.proofs.Common.{◌≡◌, ℕ, ◌+◌, ◌<◌, ◌≤◌, Bool, true, false, cond, nat_eq, nat_le, Some, List, [], ◌∷◌, ◌++◌, length, get_or, set, slice_get, All, refl, sym, ap, subst, ◌∙◌, arith}
+use Rattle.std.proofs.Common.{◌≡◌, ℕ, ◌<◌, ◌≤◌, true, cond, nat_eq, nat_le, Some, List, ◌++◌, length, get_or, set, slice_get, All, sym, ap, subst, ◌∙◌}
 use Rattle.std.specs.List.{position_from}
 use Rattle.std.proofs.lemmas.Option.{get_or_from_slice_get}
 use Rattle.std.proofs.lemmas.Bool.{leb-true}
 use Rattle.luf_interf.specs.declared.uses.Use.{Use}
 use Rattle.luf_interf.specs.declared.uses.Scope.{Scope}
 use Rattle.luf_interf.specs.inner.Uses.{nowhere, is_of, next_of, IsTable, IsChoice}
-use Rattle.luf_interf.proofs.Among.{Among, all_among}
+use Rattle.luf_interf.proofs.Among.{all_among}
 use Rattle.luf_interf.proofs.Given.{given}
 use Rattle.luf_interf.proofs.Choice.{first_at, choice}
 

@@ -2,7 +2,7 @@
 --
 -- Of two local variables that are active at one place, the one whose scope begins first is declared first: one that is
 -- declared first and active later ends where the other begins, as one in whose initialiser the other stands.
-use Rattle.std.proofs.Common.{◌≡◌, ℕ, zero, suc, ◌+◌, ◌<◌, ◌≤◌, ◌⊎◌, inl, inr, Bool, true, false, Option, Some, None, List, [], ◌∷◌, ◌++◌, length, get_or, set, slice_get, AllPairs, refl, sym, ap, subst, ◌∙◌, ⊎_elim, arith, append_assoc, get_or-set_same, get_or-set_other}
+use Rattle.std.proofs.Common.{◌≡◌, ℕ, zero, suc, ◌<◌, ◌≤◌, ◌⊎◌, inl, inr, true, false, Some, None, List, [], ◌∷◌, ◌++◌, length, get_or, set, slice_get, AllPairs, refl, sym, ap, subst, ◌∙◌, ⊎_elim, arith, append_assoc, get_or-set_same, get_or-set_other}
 use Rattle.std.proofs.lemmas.Option.{none-some, same_Some, slice_get_within, get_or_from_slice_get}
 use Rattle.std.specs.List.{Contains}
 use Rattle.std.specs.List.Sorted.{IsPermutation}
@@ -11,14 +11,14 @@ use Rattle.std.proofs.lemmas.List.Sorted.{All-permutation, Contains-permutation}
 use Rattle.std.proofs.lemmas.List.{length-set}
 use Rattle.std.proofs.lemmas.Bool.{eqb-true, eq-eqb, leb-true, ltb-true, le-leb, lt-ltb, and_parts, and_from, cases_order, both_ways}
 use Rattle.luf_name.specs.Barred.{IsBarred}
-use Rattle.luf_name.specs.Order.{IsName, IsBefore, IsNth, number_of}
+use Rattle.luf_name.specs.Order.{IsName, IsNth, number_of}
 use Rattle.luf_name.proofs.Rising.{names_rise, one_name}
 use Rattle.luf_scope.specs.Local.{Spelling, LocalVariable, is_active, locals_of}
 use Rattle.luf_scope.specs.Order.{AreOrdered}
 use Rattle.luf_scope.specs.declared.occurrence.Occurrence.{Occurrence}
 use Rattle.luf_scope.proofs.Lying.{pairs_head, pairs_tail}
 use Rattle.luf_scope.proofs.Ordered.{LocalsNest, locals_nest}
-use Rattle.luf_interf.specs.Interference.{IsLocal, IsReference, meant, Interferes, IsGlobalAt}
+use Rattle.luf_interf.specs.Interference.{IsLocal, IsReference, meant}
 use Rattle.luf_interf.specs.NewNames.{Naming, is_fixed, IsFirstFree, IsFree}
 use Rattle.luf_interf.specs.declared.uses.Owner.{Owner}
 use Rattle.luf_interf.specs.declared.uses.Owner.TheVariants as owner
@@ -29,7 +29,7 @@ use Rattle.luf_interf.specs.inner.Uses as uses
 use Rattle.luf_interf.specs.inner.Uses.{nowhere, IsBarredNumber, has_number, is_used, IsTaken, IsChoice, AreNamed, named, name_next}
 use Rattle.luf_interf.proofs.Among.{Among, here, there, all_among, all_from, any_among, any_of, index_of, pairs_at}
 use Rattle.luf_interf.proofs.Choice.{either, behind_all, parts, used_there}
-use Rattle.luf_interf.proofs.OwnersFound.{HasUse, use_reference, use_owner, reference_use, meant_active, IsScopeOf, scope_is, scope_there}
+use Rattle.luf_interf.proofs.OwnersFound.{use_reference, use_owner, reference_use, meant_active, IsScopeOf, scope_is, scope_there}
 
 -- ---- what one run tells of each
 
@@ -106,7 +106,6 @@ module _ (a e c : ℕ) (os : List Occurrence) (lies : AreOrdered a e c os) (spel
     (final : List ℕ) (sorted : List Scope) (order : AllPairs Begins sorted)
     (scope : (s : Scope) → Among s sorted → IsScopeOf (locals_of spelled os) 0 s) (scoped : (n : ℕ) (v : LocalVariable) → IsLocal spelled os n v → is_fixed v ≡ false → (s : Scope) × Among s sorted × (s.local ≡ n))
     (apart : AllPairs (λ s t. s.local ≡ t.local → ⊥) sorted) (naming : Naming) (numbered : (n : ℕ) → IsNth (naming n) (get_or final n nowhere)) where
-
   nests : (n m : ℕ) (u v : LocalVariable) → n < m → IsLocal spelled os n u → IsLocal spelled os m v → LocalsNest u v
   nests n m u v below one two = pairs_at LocalsNest (locals_of spelled os) n m u v (locals_nest a e c os spelled lies) below one two
 
@@ -160,11 +159,11 @@ module _ (a e c : ℕ) (os : List Occurrence) (lies : AreOrdered a e c os) (spel
       is_before : Begins t s → m < n
       is_before (inl less) = ⊎_elim (λ same. let sf = own.from in let tf = own_t.from in let one = ap (λ x. x.from) (same_Some u v (sym there_u ∙ ap (slice_get (locals_of spelled os)) same ∙ is)) in absurd (omega (arith, less, sf, tf, one)))
           (⊎_elim (λ below. below) (λ above.
-              let nest = nests n m v u above is there_u in
-              let low = (bounds p v active_v).0 in let high = (bounds p u active_u).1 in
-              let sf = own.from in let tf = own_t.from in
-              let ends = nest.before (omega (arith, less, sf, tf)) in
-              absurd (omega (arith, ends, low, high))))
+          let nest = nests n m v u above is there_u in
+          let low = (bounds p v active_v).0 in let high = (bounds p u active_u).1 in
+          let sf = own.from in let tf = own_t.from in
+          let ends = nest.before (omega (arith, less, sf, tf)) in
+          absurd (omega (arith, ends, low, high))))
           (cases_order m n)
       is_before (inr tie) = let sn = own.number in let tn = own_t.number in let less = tie.1 in omega (arith, sn, tn, less)
 
@@ -255,9 +254,9 @@ module _ (a e c : ℕ) (os : List Occurrence) (lies : AreOrdered a e c os) (spel
           let own_t = has_scope m u t.0 at t.1 t.2 in
           ⊎_elim
           (λ left.
-              let below = is_before m u at t.0 t.1 own_t w.token (meant_active spelled os size w.token m u means at) active (before_begins t.0 left) in
-              let last = ap (λ i. get_or final i nowhere) (sym t.2) ∙ sym (given.kept t.0 left) ∙ ap (λ i. get_or given.names i nowhere) t.2 ∙ number in
-              it.no_earlier m u below at free_u (record { token = w.token; reference = use_reference spelled os size all are w among_w; means = means; active = active }) (one_name j (naming m) name ((numbered m).0, (numbered m).1 ∙ last) (named_so, refl)))
+          let below = is_before m u at t.0 t.1 own_t w.token (meant_active spelled os size w.token m u means at) active (before_begins t.0 left) in
+          let last = ap (λ i. get_or final i nowhere) (sym t.2) ∙ sym (given.kept t.0 left) ∙ ap (λ i. get_or given.names i nowhere) t.2 ∙ number in
+          it.no_earlier m u below at free_u (record { token = w.token; reference = use_reference spelled os size all are w among_w; means = means; active = active }) (one_name j (naming m) name ((numbered m).0, (numbered m).1 ∙ last) (named_so, refl)))
           (λ right. let none = sym (given.none t.0 right) ∙ ap (λ i. get_or given.names i nowhere) t.2 ∙ number in omega (arith, none, small, few))
           (sides t.0 t.1)
 

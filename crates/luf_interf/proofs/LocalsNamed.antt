@@ -1,5 +1,5 @@
 -- What local variables are named from: the table behind all references, and the scopes in order.
-use Rattle.std.proofs.Common.{◌≡◌, ℕ, zero, suc, ◌+◌, ◌<◌, ◌≤◌, ◌⊎◌, inl, inr, Bool, true, false, cond, Option, Some, None, is_some, List, [], ◌∷◌, length, get_or, set, drop, replicate, map, slice_get, All, AllPairs, refl, sym, ap, subst, ◌∙◌, ⊎_elim, arith, get_or-set_same, get_or-set_other}
+use Rattle.std.proofs.Common.{◌≡◌, ℕ, ◌+◌, ◌<◌, ◌≤◌, inl, inr, Bool, true, false, cond, Option, Some, is_some, List, [], ◌∷◌, length, get_or, set, replicate, slice_get, All, AllPairs, refl, sym, ap, subst, ◌∙◌, ⊎_elim, arith, get_or-set_same, get_or-set_other}
 use Rattle.std.specs.List.{count_by, cons_option}
 use Rattle.std.specs.List.Sorted.{IsPermutation}
 use Rattle.std.proofs.lemmas.Bool.{cases_lt, cases_eq, and_parts, eqb-true, leb-true, ltb-true}
@@ -7,7 +7,7 @@ use Rattle.std.proofs.lemmas.List.{get_or-replicate, length-replicate, get_or_pa
 use Rattle.std.proofs.lemmas.List.Elements.{All-nil, All-cons, All-head, All-tail, All-weaker}
 use Rattle.std.proofs.lemmas.List.Kept.{AllPairs-cons}
 use Rattle.std.proofs.lemmas.List.Sums.{sum_by-cons}
-use Rattle.std.proofs.lemmas.Option.{none-some, same_Some, slice_get_within}
+use Rattle.std.proofs.lemmas.Option.{same_Some, slice_get_within}
 use Rattle.luf_name.specs.Barred.{IsBarred}
 use Rattle.luf_name.specs.Order.{IsNth}
 use Rattle.luf_name.proofs.Rising.{one_name}
@@ -28,9 +28,9 @@ use Rattle.luf_interf.specs.declared.uses.Owner.TheVariants as owner
 use Rattle.luf_interf.specs.declared.uses.Scope.{Scope}
 use Rattle.luf_interf.specs.declared.uses.Use.{Use}
 use Rattle.luf_interf.specs.inner.Owners.{IsOwner, renamed, free, AreUses, no_uses, no_name, no_owner, a_use, IsReading, scope_at, scopes_from, Begins}
-use Rattle.luf_interf.specs.inner.Uses.{nowhere, IsBarredNumber, is_local, is_of, AreFirsts, IsHead, IsTable, AreBarred, IsScope, AreScopes}
-use Rattle.luf_interf.proofs.Among.{Among, here, there, all_among, all_from, among_at}
-use Rattle.luf_interf.proofs.OwnersFound.{IsScopeOf, use_owner, meant_active}
+use Rattle.luf_interf.specs.inner.Uses.{nowhere, IsBarredNumber, is_local, is_of, IsHead, AreBarred, IsScope, AreScopes}
+use Rattle.luf_interf.proofs.Among.{Among, all_among, all_from, among_at}
+use Rattle.luf_interf.proofs.OwnersFound.{use_owner, meant_active}
 use Rattle.luf_interf.proofs.LeastLocals.{scope_sorted, sorted_apart}
 
 -- ---- how many references there are

@@ -1,14 +1,12 @@
 -- What a reference refers to, by its role.
-use Rattle.std.proofs.Common.{◌≡◌, ℕ, ◌+◌, ◌<◌, ◌≤◌, ◌⊎◌, inl, inr, Bool, true, false, cond, nat_lt, Option, Some, None, option_map, List, [], ◌∷◌, map, slice_get, unwrap_or, refl, sym, ap, subst, ◌∙◌, ⊎_elim, arith}
-use Rattle.std.specs.List.{list_any}
+use Rattle.std.proofs.Common.{◌≡◌, ℕ, ◌<◌, ◌≤◌, ◌⊎◌, inl, inr, true, false, Option, Some, None, option_map, List, [], slice_get, refl, sym, ap, subst, ◌∙◌, arith}
 use Rattle.std.specs.Option.{option_map_or}
-use Rattle.std.proofs.lemmas.Option.{none-some, same_Some, slice_get-map}
-use Rattle.std.proofs.lemmas.Bool.{cases_lt, false≢true, true≢false}
+use Rattle.std.proofs.lemmas.Option.{none-some, slice_get-map}
 use Rattle.luf_name.specs.Order.{IsNth}
 use Rattle.luf_scope.specs.Local.{Spelling, LocalVariable, binder_of, locals_of}
 use Rattle.luf_scope.specs.Links.{NameTable, role_at, AreLinks}
-use Rattle.luf_scope.specs.Order.{behind, Within, AreOrdered}
-use Rattle.luf_scope.specs.Role.{is_variable, reference, role_of}
+use Rattle.luf_scope.specs.Order.{Within, AreOrdered}
+use Rattle.luf_scope.specs.Role.{is_variable, reference}
 use Rattle.luf_scope.specs.declared.binder.Role.{Role}
 use Rattle.luf_scope.specs.declared.binder.Role.TheVariants as role
 use Rattle.luf_scope.specs.declared.occurrence.Occurrence.{Occurrence}

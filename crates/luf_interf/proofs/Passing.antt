@@ -1,10 +1,10 @@
 -- A table of next uses, when a reference is passed.
-use Rattle.std.proofs.Common.{◌≡◌, ℕ, ◌<◌, ◌≤◌, ◌⊎◌, inl, inr, Bool, true, false, cond, eqb, nat_eq, List, [], ◌∷◌, length, get_or, set, reverse, ◌++◌, is_some, slice_get, All, append_assoc, refl, sym, ap, subst, ◌∙◌, ⊎_elim, arith, get_or-set_other, get_or-set_same}
+use Rattle.std.proofs.Common.{◌≡◌, ℕ, ◌<◌, ◌≤◌, inl, inr, false, List, [], ◌∷◌, length, get_or, set, reverse, ◌++◌, is_some, slice_get, All, append_assoc, sym, ap, subst, ◌∙◌, ⊎_elim, arith, get_or-set_other, get_or-set_same}
 use Rattle.std.proofs.lemmas.List.{length-set, reverse-append}
 use Rattle.std.proofs.lemmas.Bool.{cases_eq, cases_lt, ne_eqb, true≢false}
 use Rattle.std.proofs.lemmas.Option.{slice_get-get_or}
 use Rattle.luf_interf.specs.declared.uses.Use.{Use}
-use Rattle.luf_interf.specs.inner.Uses.{nowhere, IsBarredNumber, number_of, has_number, next_of, following, IsLinked, AreLinked, IsHead, IsTable, IsPassed, first_token}
+use Rattle.luf_interf.specs.inner.Uses.{IsBarredNumber, number_of, has_number, next_of, following, AreLinked, IsHead, IsTable, IsPassed, first_token}
 use Rattle.std.proofs.lemmas.List.Elements.{All-nil, All-cons, All-push, All-weaker}
 use Rattle.luf_interf.proofs.Nexts.{next_later}
 
@@ -29,8 +29,10 @@ module _ (names behind heads : List ℕ) (u : Use) (us : List Use) (table : IsTa
       record {
         small = let small = table.small in omega (arith, small, count);
         tells = λ k within. ⊎_elim
-            (λ same. inr (subst (λ j. IsBarredNumber j → ⊥) (sym same) (table.linked.0.allowed below),
-            ap (λ j. get_or (set heads n (following behind u)) j 0) same ∙ get_or-set_same heads n (following behind u) 0 below ∙ table.linked.0.follows below ∙ ap (λ j. next_of (has_number names j) us) (sym same)))
+            (λ same. inr (
+              subst (λ j. IsBarredNumber j → ⊥) (sym same) (table.linked.0.allowed below),
+              ap (λ j. get_or (set heads n (following behind u)) j 0) same ∙ get_or-set_same heads n (following behind u) 0 below ∙ table.linked.0.follows below ∙ ap (λ j. next_of (has_number names j) us) (sym same),
+            ))
             (λ other. subst (IsHead names us k) (sym (get_or-set_other heads n k (following behind u) 0 other)) (head_later names u us k (get_or heads k 0) (λ e. other (sym e)) (table.tells k (omega (arith, within, count)))))
             (cases_eq k n);
         linked = subst (λ m. AreLinked m names behind us) (sym count) table.linked.1;

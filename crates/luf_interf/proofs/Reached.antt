@@ -1,11 +1,11 @@
 -- How far the local variables are named, in the order in which their scopes begin.
-use Rattle.std.proofs.Common.{◌≡◌, ℕ, ◌+◌, ◌<◌, ◌≤◌, ◌⊎◌, inl, inr, Bool, true, false, List, [], ◌∷◌, ◌++◌, length, get_or, set, drop, All, AllPairs, refl, sym, ap, subst, ◌∙◌, ⊎_elim, arith, append_assoc, get_or-set_other}
+use Rattle.std.proofs.Common.{◌≡◌, ℕ, ◌+◌, ◌<◌, ◌≤◌, true, List, [], ◌∷◌, ◌++◌, length, get_or, set, drop, All, refl, sym, ap, subst, ◌∙◌, arith, append_assoc, get_or-set_other}
 use Rattle.std.proofs.lemmas.List.{length-set, length-append, drop_more, get_or_default}
 use Rattle.std.proofs.lemmas.List.Elements.{All-nil, All-append, All-weaker}
 use Rattle.std.proofs.lemmas.Bool.{false_from_ne_true}
 use Rattle.luf_interf.specs.declared.uses.Use.{Use}
 use Rattle.luf_interf.specs.declared.uses.Scope.{Scope}
-use Rattle.luf_interf.specs.inner.Uses.{nowhere, is_of, next_of, IsChoice, IsPassed, IsScope, AreScopes, AreNamed, named, name_next}
+use Rattle.luf_interf.specs.inner.Uses.{nowhere, is_of, next_of, IsChoice, IsPassed, IsScope, AreScopes, AreNamed, name_next}
 use Rattle.luf_interf.proofs.Among.{Among, here, there, all_among, all_from}
 use Rattle.luf_interf.proofs.Choice.{behind_all}
 use Rattle.luf_interf.proofs.Nexts.{next_behind}

@@ -1,6 +1,5 @@
 -- References read from the last one on.
-use Rattle.std.proofs.Common.{◌≡◌, ℕ, zero, suc, ◌+◌, ◌<◌, ◌≤◌, true, false, Option, Some, None, List, [], ◌∷◌, length, get_or, drop, slice_get, All, AllPairs, refl, sym, ap, subst, ◌∙◌, arith}
-use Rattle.std.specs.List.{list_any}
+use Rattle.std.proofs.Common.{◌≡◌, ℕ, zero, suc, ◌+◌, ◌<◌, Some, None, List, [], ◌∷◌, length, get_or, drop, All, AllPairs, sym, ap, subst, ◌∙◌, arith}
 use Rattle.std.proofs.lemmas.List.{drop_more}
 use Rattle.std.proofs.lemmas.Option.{none-some, same_Some, slice_get_within}
 use Rattle.luf_name.specs.Barred.{IsBarred}
@@ -17,9 +16,9 @@ use Rattle.luf_interf.specs.declared.uses.Owner.{Owner}
 use Rattle.luf_interf.specs.declared.uses.Owner.TheVariants as owner
 use Rattle.luf_interf.specs.declared.uses.Use.{Use}
 use Rattle.luf_interf.specs.inner.Owners.{a_number, IsOwner, renamed, free, AreUses, no_name, no_owner, a_use, IsReading}
-use Rattle.luf_interf.specs.inner.Uses.{nowhere, IsBarredNumber, AreFirsts, CanStand, IsTable, IsPut}
+use Rattle.luf_interf.specs.inner.Uses.{nowhere, AreFirsts, CanStand, IsTable, IsPut}
 use Rattle.luf_interf.proofs.Among.{Among, here, there, all_among, all_from, any_of}
-use Rattle.luf_interf.proofs.OwnersFound.{IsUse, use_is, used_variable}
+use Rattle.luf_interf.proofs.OwnersFound.{use_is, used_variable}
 
 used_place : (o : Occurrence) (t : ℕ) → used_by o ≡ Some t → (place o ≡ t) × (behind o ≡ t + 1)
 used_place (Reads name) t is = let same = same_Some name t is in (same, ap (λ n. n + 1) same)

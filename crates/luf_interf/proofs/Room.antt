@@ -1,15 +1,15 @@
 -- A table with more names than are barred or used has one that is free.
-use Rattle.std.proofs.Common.{◌≡◌, ℕ, ◌+◌, ◌<◌, ◌≤◌, ◌⊎◌, inl, inr, Bool, true, false, ◌||◌, eqb, nat_le, Option, Some, None, List, [], ◌∷◌, ◌++◌, length, get_or, map, refl, sym, ap, subst, ◌∙◌, arith, IsSome, is_some}
-use Rattle.std.specs.List.{list_any, position_from}
+use Rattle.std.proofs.Common.{◌≡◌, ℕ, ◌+◌, ◌<◌, ◌≤◌, inl, inr, eqb, nat_le, Option, Some, None, List, [], ◌∷◌, ◌++◌, length, get_or, map, refl, subst, arith, IsSome}
+use Rattle.std.specs.List.{position_from}
 use Rattle.std.proofs.lemmas.List.{length-map, length-append}
 use Rattle.std.proofs.lemmas.Map.Steps.{le-length_from_below}
 use Rattle.std.proofs.lemmas.Bool.{leb-false, eqb-true, eq-eqb}
 use Rattle.luf_name.specs.Order as order
 use Rattle.luf_interf.specs.declared.uses.Use.{Use}
-use Rattle.luf_interf.specs.inner.Uses.{nowhere, number_of, has_number, next_of, IsHead, IsTable}
+use Rattle.luf_interf.specs.inner.Uses.{nowhere, number_of, has_number, IsHead, IsTable}
 use Rattle.luf_interf.proofs.Among.{Among, here, there, any_of}
 use Rattle.luf_interf.proofs.BarredWords.{barred_words, barred_among}
-use Rattle.luf_interf.proofs.Choice.{nowhere_at, either, behind_all}
+use Rattle.luf_interf.proofs.Choice.{nowhere_at, behind_all}
 use Rattle.luf_interf.proofs.Nexts.{next_passes}
 
 mapped : {X : Type 0} (f : X → ℕ) (xs : List X) (x : X) → Among x xs → Among (f x) (map f xs)

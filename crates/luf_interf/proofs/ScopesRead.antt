@@ -1,5 +1,5 @@
 -- Scopes of local variables, read one after another.
-use Rattle.std.proofs.Common.{◌≡◌, ℕ, zero, suc, ◌+◌, ◌<◌, Bool, true, false, cond, count_by, Option, Some, None, option_map, List, [], ◌∷◌, ◌++◌, map, length, get_or, drop, slice_get, refl, sym, ap, subst, ◌∙◌, arith, append_assoc}
+use Rattle.std.proofs.Common.{◌≡◌, ℕ, zero, suc, ◌+◌, ◌<◌, true, false, cond, count_by, Option, Some, None, option_map, List, [], ◌∷◌, ◌++◌, map, length, get_or, drop, slice_get, refl, sym, ap, ◌∙◌, arith, append_assoc}
 use Rattle.std.specs.List.{cons_option}
 use Rattle.std.specs.Option.{option_map_or, option_to_list}
 use Rattle.std.proofs.lemmas.List.{append-nil, drop_more, drop-drop}
@@ -69,7 +69,7 @@ module _ (os : List Occurrence) (i : ℕ) (d : Occurrence) (below : i < length o
         let locals = locals_of spelled (drop (i + 1) os) in
         let there = at_drop (locals_of spelled os) n v locals (ahead ∙ locals_split (Some v) is) in
         let kept : option_map_or (λ b. b.fixed) (slice_get binders n) true ≡ is_fixed v =
-            ap (λ o. option_map_or (λ b. b.fixed) o true) (ap (λ bs. slice_get bs n) are ∙ slice_get-map binder_of (locals_of spelled os) n ∙ ap (option_map binder_of) there) in
+        ap (λ o. option_map_or (λ b. b.fixed) o true) (ap (λ bs. slice_get bs n) are ∙ slice_get-map binder_of (locals_of spelled os) n ∙ ap (option_map binder_of) there) in
         ap (λ xs. xs ++ scopes_from (n + 1) locals) added
         ∙ added_option found (scope_at (option_map_or (λ b. b.fixed) (slice_get binders n) true) n from to) (scopes_from (n + 1) locals)
         ∙ (λ j. found ++ cons_option (scope_at (kept j) n (begins j) (ends j)) (scopes_from (n + 1) locals))

@@ -1,5 +1,5 @@
 // The numbers of the new names of local variables.
-ghost use Rattle.std.specs.Prelude.{◌≡◌, ℕ, ◌<◌, ◌≤◌, [], IfOk, length};
+ghost use Rattle.std.specs.Prelude.{◌≡◌, ℕ, ◌<◌, ◌≤◌, [], IfOk, length, replicate};
 ghost use Rattle.luf_lex.specs.Cut.{IsCut};
 ghost use Rattle.luf_lex.specs.Tokens.{toks_of};
 ghost use Rattle.luf_scope.specs.Links.{spelling_in, AreLinks};
@@ -35,17 +35,24 @@ pub fn local_names(
     ensures { IfOk result (λ numbers. AreLocalNames (spelling_in src.now cut.now) os.now numbers.items) }
 {
     let count = l.binders().len();
-    let mut firsts = vec![in alloc; u32::MAX; count]?;
+    let mut firsts = nowheres(alloc, count)?;
     let mut table = Table {
         heads: heads_of(alloc, count_references(os) + BARRED)?,
         uses: Vec::new(alloc),
-        names: vec![in alloc; u32::MAX; count]?,
-        behind: vec![in alloc; u32::MAX; count]?,
+        names: nowheres(alloc, count)?,
+        behind: nowheres(alloc, count)?,
     };
     table.read(src, cut, os, l, firsts.as_mut_slice())?;
     let scopes = in_order(scopes_of(alloc, os, l.binders())?)?;
     table.give_all(firsts.as_slice(), scopes.as_slice());
     Ok(table.names)
+}
+
+fn nowheres(alloc: Global, count: usize) -> Result<Vec<u32>, Memory>
+    ensures { IfOk result (λ found. found.items ≡ replicate count nowhere) }
+{
+    let found = vec![in alloc; u32::MAX; count]?;
+    Ok(found)
 }
 
 // The table behind the last reference: no name is used, and the barred ones are 0.

@@ -83,7 +83,7 @@ fn owner_of(src: &[u8], cut: &Cut, l: &Links, token: u32, size: usize) -> Option
     requires cut { IsCut src.now cut.now }
     requires size { size ≤ 2 ^ 32 }
     ensures { (os : List Occurrence) → AreOrdered 0 (length (toks_of cut.now)) (length (toks_of cut.now)) os → AreLinks (spelling_in src.now cut.now) os (length (toks_of cut.now)) l.now
-      → list_any (is_variable token) os ≡ true → IsOwner (spelling_in src.now cut.now) os size token result }
+        → list_any (is_variable token) os ≡ true → IsOwner (spelling_in src.now cut.now) os size token result }
 {
     match l.at(token) {
         Some(Role::Refers(number)) => {

@@ -1,5 +1,5 @@
 -- The references of a chunk one behind another, each with what it refers to, and a table of the next use of each name.
-use Rattle.std.specs.Prelude.{◌≡◌, ℕ, ◌+◌, ◌<◌, ◌≤◌, ◌⊎◌, Bool, true, false, ◌&&◌, cond, nat_eq, nat_le, nat_lt, List, [], ◌∷◌, ◌++◌, length, slice_index_or, slice_set, All, AllPairs}
+use Rattle.std.specs.Prelude.{◌≡◌, ℕ, ◌<◌, ◌≤◌, ◌⊎◌, Bool, true, false, ◌&&◌, cond, nat_eq, nat_le, nat_lt, List, [], ◌∷◌, ◌++◌, length, slice_index_or, slice_set, All, AllPairs}
 use Rattle.std.specs.List.{list_any}
 use Rattle.luf_name.specs.Barred.{IsBarred}
 use Rattle.luf_name.specs.Order.{IsNth}

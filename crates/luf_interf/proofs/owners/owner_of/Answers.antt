@@ -1,4 +1,4 @@
-use Rattle.std.proofs.Common.{Some, None, true, slice_get, length, sym, ap, ◌∙◌, subst}
+use Rattle.std.proofs.Common.{Some, true, slice_get, length, sym, ap, ◌∙◌, subst}
 use Rattle.std.specs.Option.{option_map_or}
 use Rattle.luf_lex.specs.Tokens.{toks_of}
 use Rattle.luf_scope.specs.Links.{spelling_in}

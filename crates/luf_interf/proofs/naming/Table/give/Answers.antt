@@ -1,4 +1,4 @@
-use Rattle.std.proofs.Common.{◌≡◌, ℕ, ◌+◌, ◌<◌, ◌≤◌, ◌∷◌, Some, length, reverse, sym, ap, ◌∙◌, subst, IsSome, arith, cond, nat_eq, nat_le, eq-eqb, refl}
+use Rattle.std.proofs.Common.{◌≡◌, ◌+◌, ◌<◌, ◌≤◌, Some, length, reverse, sym, ◌∙◌, subst, IsSome, arith, cond, nat_eq, nat_le, eq-eqb, refl}
 use Rattle.std.specs.List.{position_from}
 use Rattle.std.proofs.lemmas.List.{length-reverse}
 use Rattle.std.proofs.lemmas.Option.{slice_get-get_or}
@@ -43,8 +43,9 @@ returns-clause-table c =
     let next = c.unwrap-next.result in
     let found : position_from (λ n. nat_le s.to n) 0 own.heads ≡ Some c.unwrap-number.result = sym c.first.ensures ∙ c.unwrap-number.ensures in
     let head : c.if-first-eq4294967295.head ≡ cond (nat_eq c.args.first nowhere) next c.args.first = elim c.if-first-eq4294967295.branch [
-      then-first-eq4294967295 w ↦ w.head-is ∙ sym (cond-true (nat_eq c.args.first nowhere) next c.args.first (eq-eqb c.args.first nowhere w.if-first-eq4294967295.true))
-      | else-first-eq4294967295 w ↦ w.head-is ∙ sym (cond-false (nat_eq c.args.first nowhere) next c.args.first (ne_eqb c.args.first nowhere w.if-first-eq4294967295.false)) ] in
+      | then-first-eq4294967295 w ↦ w.head-is ∙ sym (cond-true (nat_eq c.args.first nowhere) next c.args.first (eq-eqb c.args.first nowhere w.if-first-eq4294967295.true))
+      | else-first-eq4294967295 w ↦ w.head-is ∙ sym (cond-false (nat_eq c.args.first nowhere) next c.args.first (ne_eqb c.args.first nowhere w.if-first-eq4294967295.false))
+    ] in
     given_at own.names.items own.behind.items own.heads c.set.new.self (reverse own.uses.items) s.local c.unwrap-number.result s.to c.args.first next c.if-first-eq4294967295.head
     c.requires.named c.requires.behind c.requires.unnamed c.requires.some found (sym c.at.ensures ∙ c.unwrap-next.ensures) head c.set.ensures c.requires.inside c.requires.first c.requires.table
 

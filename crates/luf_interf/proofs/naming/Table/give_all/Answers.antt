@@ -1,7 +1,6 @@
-use Rattle.std.proofs.Common.{◌≡◌, ◌+◌, ◌<◌, ◌++◌, List, All, get_or, set, drop, length, reverse, refl, sym, ap, ◌∙◌, subst, arith}
+use Rattle.std.proofs.Common.{◌≡◌, ◌+◌, ◌++◌, get_or, set, length, reverse, sym, ap, ◌∙◌, subst, arith}
 use Rattle.std.proofs.lemmas.List.{get_or_default, drop_all}
 use Rattle.luf_interf.specs.declared.uses.Scope.{Scope}
-use Rattle.luf_interf.specs.declared.uses.Use.{Use}
 use Rattle.luf_interf.specs.inner.Uses.{IsChoice, AreNamed, named}
 use Rattle.luf_interf.proofs.Reached.{IsReached, reached_next, ready}
 use Rattle.luf_interf.proofs.naming.Table.give_all.Goals as goal

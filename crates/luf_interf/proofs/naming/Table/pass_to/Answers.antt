@@ -1,6 +1,5 @@
-use Rattle.std.proofs.Common.{◌≡◌, ◌<◌, ◌≤◌, ◌∙◌, reverse, sym, subst, arith}
-use Rattle.luf_interf.specs.inner.Uses.{first_token}
-use Rattle.luf_interf.proofs.Passing.{one_passed, first_token_is, ahead_of}
+use Rattle.std.proofs.Common.{◌∙◌, reverse, arith}
+use Rattle.luf_interf.proofs.Passing.{one_passed, first_token_is}
 use Rattle.luf_interf.proofs.naming.Table.pass_to.Goals as goal
 
 pub loop-self-preserved : goal.loop-self-preserved

@@ -1,5 +1,4 @@
-use Rattle.std.proofs.Common.{◌≡◌, ◌<◌, ◌++◌, List, All, length, reverse}
-use Rattle.luf_interf.specs.declared.uses.Use.{Use}
+use Rattle.std.proofs.Common.{◌≡◌, length, reverse}
 use Rattle.luf_interf.specs.inner.Uses.{IsTable, IsPassed}
 use Rattle.luf_interf.proofs.naming.Table.pass_to.Given as goal
 

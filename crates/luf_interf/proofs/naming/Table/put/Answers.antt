@@ -1,4 +1,4 @@
-use Rattle.std.proofs.Common.{◌<◌, ◌++◌, ◌∷◌, [], length, reverse, sym, ap, ◌∙◌, subst}
+use Rattle.std.proofs.Common.{length, reverse, sym, ◌∙◌, subst}
 use Rattle.luf_interf.specs.declared.uses.Owner.TheVariants as owner
 use Rattle.luf_interf.specs.declared.uses.Use.{Use}
 use Rattle.luf_interf.specs.inner.Uses.{IsTable, CanStand}

@@ -1,9 +1,7 @@
-use Rattle.std.proofs.Common.{◌≡◌, None, Some, length, get_or, reverse, sym, ap, ◌∙◌, subst, arith}
+use Rattle.std.proofs.Common.{◌≡◌, None, Some, length, reverse, sym, ap, subst, arith}
 use Rattle.luf_lex.specs.Tokens.{toks_of}
 use Rattle.luf_scope.specs.Links.{spelling_in}
-use Rattle.luf_scope.specs.declared.occurrence.Occurrence.{Occurrence}
 use Rattle.luf_scope.specs.declared.occurrence.Occurrence.TheVariants.{Local}
-use Rattle.luf_scope.specs.inner.Scopes.{used_by}
 use Rattle.luf_interf.specs.inner.Owners.{IsOwner, IsReading}
 use Rattle.luf_interf.specs.inner.Uses.{IsTable}
 use Rattle.luf_interf.proofs.ReadBackwards.{owner_stands, reference_at, rises_before, read_nothing, read_kept, read_put}
@@ -23,8 +21,8 @@ put-requires-clause-owner c =
     let e = length (toks_of c.args.cut.now) in
     let is = reference_at e c.args.os.now c.requires.order spelled c.args.place (Local 0 None 0 0) c.requires.within c.in-Some.token (sym c.in-Some.ensures) in
     let owned : IsOwner spelled c.args.os.now (length own.heads) c.in-Some.token (Some c.in-Some-owner_of.owner) =
-        subst (λ n. IsOwner spelled c.args.os.now n c.in-Some.token (Some c.in-Some-owner_of.owner)) c.len.ensures
-        (subst (IsOwner spelled c.args.os.now c.len.result c.in-Some.token) c.in-Some-owner_of.is (c.owner_of.ensures c.args.os.now c.requires.order c.requires.links is)) in
+    subst (λ n. IsOwner spelled c.args.os.now n c.in-Some.token (Some c.in-Some-owner_of.owner)) c.len.ensures
+    (subst (IsOwner spelled c.args.os.now c.len.result c.in-Some.token) c.in-Some-owner_of.is (c.owner_of.ensures c.args.os.now c.requires.order c.requires.links is)) in
     owner_stands spelled c.args.os.now (length own.heads) c.in-Some.token c.in-Some-owner_of.owner own.names.items c.args.firsts.now c.requires.reading.count c.requires.reading.unnamed owned
 
 pub returns-in_ok-put-in-Some-owner_of-clause-reading : goal.returns-in_ok-put-in-Some-owner_of-clause-reading
@@ -34,8 +32,8 @@ returns-in_ok-put-in-Some-owner_of-clause-reading c =
     let e = length (toks_of c.args.cut.now) in
     let is = reference_at e c.args.os.now c.requires.order spelled c.args.place (Local 0 None 0 0) c.requires.within c.in-Some.token (sym c.in-Some.ensures) in
     let owned : IsOwner spelled c.args.os.now (length own.heads) c.in-Some.token (Some c.in-Some-owner_of.owner) =
-        subst (λ n. IsOwner spelled c.args.os.now n c.in-Some.token (Some c.in-Some-owner_of.owner)) c.len.ensures
-        (subst (IsOwner spelled c.args.os.now c.len.result c.in-Some.token) c.in-Some-owner_of.is (c.owner_of.ensures c.args.os.now c.requires.order c.requires.links is)) in
+    subst (λ n. IsOwner spelled c.args.os.now n c.in-Some.token (Some c.in-Some-owner_of.owner)) c.len.ensures
+    (subst (IsOwner spelled c.args.os.now c.len.result c.in-Some.token) c.in-Some-owner_of.is (c.owner_of.ensures c.args.os.now c.requires.order c.requires.links is)) in
     let after = c.put.new.self in
     let names : after.names.items ≡ own.names.items = ap (λ v. v.items) c.in_ok-put-in-Some-owner_of.ensures.names in
     let behind : after.behind.items ≡ own.behind.items = ap (λ v. v.items) c.in_ok-put-in-Some-owner_of.ensures.behind in
@@ -53,8 +51,8 @@ returns-in-None-owner_of-clause-reading c =
     let e = length (toks_of c.args.cut.now) in
     let is = reference_at e c.args.os.now c.requires.order spelled c.args.place (Local 0 None 0 0) c.requires.within c.in-Some.token (sym c.in-Some.ensures) in
     let owned : IsOwner spelled c.args.os.now (length own.heads) c.in-Some.token None =
-        subst (λ n. IsOwner spelled c.args.os.now n c.in-Some.token None) c.len.ensures
-        (subst (IsOwner spelled c.args.os.now c.len.result c.in-Some.token) c.in-None-owner_of.is (c.owner_of.ensures c.args.os.now c.requires.order c.requires.links is)) in
+    subst (λ n. IsOwner spelled c.args.os.now n c.in-Some.token None) c.len.ensures
+    (subst (IsOwner spelled c.args.os.now c.len.result c.in-Some.token) c.in-None-owner_of.is (c.owner_of.ensures c.args.os.now c.requires.order c.requires.links is)) in
     read_kept e c.args.os.now c.requires.order spelled c.args.place (Local 0 None 0 0) c.requires.within own.names.items own.behind.items own.heads c.args.firsts.now (reverse own.uses.items) c.requires.reading c.in-Some.token (sym c.in-Some.ensures) owned
 
 pub returns-in-None-clause-reading : goal.returns-in-None-clause-reading
