@@ -13,10 +13,10 @@ mod scoping;
 mod uses;
 mod whole;
 
-pub use whole::names;
 pub use laws::{
     captured_or_alike, least_is_free, least_names_exist, least_names_have_no_fault,
     least_names_keep_jumps, least_names_keep_roles, least_names_resolve_alike, one_naming,
 };
 pub use luf_memory::Memory;
 pub use name_marks::Names;
+pub use whole::names;

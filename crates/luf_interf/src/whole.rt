@@ -67,13 +67,7 @@ fn name_at(
     }
 }
 
-fn told_name(
-    l: &Links,
-    j: &Jumps,
-    locals: &[u32],
-    labels: &[u32],
-    token: u32,
-) -> Option<Name>
+fn told_name(l: &Links, j: &Jumps, locals: &[u32], labels: &[u32], token: u32) -> Option<Name>
     ensures { result ≡ told_at l.now j.now locals.now labels.now token }
 {
     match l.at(token) {
