@@ -14,3 +14,4 @@ pub mod Resolve
 mod NamesExamples
 pub mod Faults
 pub mod Exist
+pub mod GivenNames

@@ -2,8 +2,10 @@
 #![tactic(auto)]
 
 mod laws;
+mod names;
 
 pub use laws::{
     captured_or_alike, least_is_free, least_names_exist, least_names_have_no_fault,
     least_names_keep_jumps, least_names_keep_roles, least_names_resolve_alike, one_naming,
 };
+pub use names::Names;

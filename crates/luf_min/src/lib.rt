@@ -1,6 +1,12 @@
 //! The minified text of a source.
 #![tactic(auto)]
 
-mod laws;
+mod item;
+mod lists;
+mod minify;
+mod spelling;
+mod starts;
+mod text;
+mod walk;
 
-pub use laws::{minified_exists, minified_is_same, one_minified};
+pub use minify::minify;
