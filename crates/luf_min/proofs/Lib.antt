@@ -1,0 +1,10 @@
+pub mod Added
+pub mod ListedLaws
+pub mod StatementLaws
+pub mod EachSound
+pub mod PairedWritten
+pub mod ItemsWithin
+pub mod ItemsSpelled
+pub mod NewSpelling
+pub mod HashLine
+pub mod TextLemmas

@@ -3,10 +3,10 @@
 
 mod item;
 mod lists;
-mod minify;
 mod spelling;
 mod starts;
 mod text;
 mod walk;
+mod writing;
 
-pub use minify::minify;
+pub use writing::minify;

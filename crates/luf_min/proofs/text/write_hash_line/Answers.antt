@@ -1,9 +1,9 @@
 use Rattle.std.proofs.Common.{take, ap, arith, ◌∙◌, ◌≡◌, ◌++◌}
 use Rattle.std.proofs.lemmas.List.{take_all}
-use Rattle.luf_work.specs.Text.{hash_text}
-use Rattle.luf_work.proofs.TextAgain.{hash_text_first}
-use Rattle.luf_work.proofs.TextLemmas.{first_within, front_kept}
-use Rattle.luf_work.proofs.text.write_hash_line.Goals as goal
+use Rattle.luf_min.specs.Text.{hash_text}
+use Rattle.luf_min.proofs.HashLine.{hash_text_first, first_within}
+use Rattle.luf_min.proofs.TextLemmas.{front_kept}
+use Rattle.luf_min.proofs.text.write_hash_line.Goals as goal
 
 pub write_if_hash_line-requires-clause-order : goal.write_if_hash_line-requires-clause-order
 write_if_hash_line-requires-clause-order c = (first_within c.args.src.now c.args.cut.now c.requires c.first_two-piece-items.result.now (c.first_two-piece-items.ensures ∙ ap (λ ps. take 2 ps) c.pieces.ensures) c.loop-piece.piece-index _ (omega arith)).0

@@ -1,6 +1,6 @@
 use Rattle.std.proofs.Common.{◌≡◌, ◌++◌, take}
-use Rattle.luf_work.specs.Text.{hash_text}
-use Rattle.luf_work.proofs.text.write_hash_line.Given as goal
+use Rattle.luf_min.specs.Text.{hash_text}
+use Rattle.luf_min.proofs.text.write_hash_line.Given as goal
 
 -- the `#` lines of the pieces so far are written
 abbrev pub invariant-loop-piece : goal.invariant-loop-piece
