@@ -104,8 +104,3 @@ none_given f (x ∷ xs) none = λ i. cons_option (none x here i) (none_given f x
 pub paired_given : {A B Y : Type 0} {R : A → B → Type 0} (f : A → Option Y) (g : B → Option Y) {xs : List A} {ys : List B} → Paired R xs ys → ((x : A) (y : B) → R x y → Among x xs → g y ≡ f x) → filter_map g ys ≡ filter_map f xs
 paired_given f g nothing same = refl
 paired_given f g (more {x} {y} one rest) same = λ i. cons_option (same x y one here i) (paired_given f g rest (λ z w r m. same z w r (there m)) i)
-
-pub paired_option : {A B : Type 0} {R : A → B → Type 0} {xs : List A} {ys : List B} → Paired R xs ys → (n : ℕ) → PairedOption R (slice_get xs n) (slice_get ys n)
-paired_option nothing n = neither
-paired_option (more one rest) zero = both one
-paired_option (more one rest) (suc n) = paired_option rest n

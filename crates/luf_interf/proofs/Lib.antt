@@ -14,4 +14,5 @@ pub mod Resolve
 mod NamesExamples
 pub mod Faults
 pub mod Exist
+pub mod NewWords
 pub mod GivenNames

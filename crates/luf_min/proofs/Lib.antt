@@ -1,3 +1,6 @@
+pub mod FirstByte
+pub mod TokensCut
+pub mod TextAgain
 pub mod Added
 pub mod ListedLaws
 pub mod StatementLaws
@@ -6,5 +9,5 @@ pub mod PairedWritten
 pub mod ItemsWithin
 pub mod ItemsSpelled
 pub mod NewSpelling
-pub mod HashLine
+pub mod PiecesWithin
 pub mod TextLemmas

@@ -1,14 +1,14 @@
 -- The text of words, word by word.
 use Rattle.std.proofs.Common.{◌≡◌, ℕ, zero, suc, ◌+◌, ◌<◌, ◌≤◌, Option, List, [], ◌∷◌, ◌++◌, Some, None, codes, length, length-append, take, drop, append-nil, append_assoc, IfSome, refl, sym, ap, ◌∙◌, subst, arith}
 use Rattle.std.specs.Prelude.{slice_get}
-use Rattle.std.proofs.lemmas.List.{take_more, take-take, length-map}
+use Rattle.std.proofs.lemmas.List.{take-take}
 use Rattle.std.proofs.Math.Seq.{take-append_seam}
-use Rattle.std.proofs.lemmas.Option.{slice_get_within, get_or_from_slice_get, slice_get-get_or}
-use Rattle.luf_lex.specs.Tokens.{toks_of, spellings_of, tokens_of}
+use Rattle.std.proofs.lemmas.Option.{slice_get-get_or}
+use Rattle.luf_lex.specs.Tokens.{toks_of, spellings_of}
 use Rattle.luf_lex.specs.declared.token.Piece.{Piece}
-use Rattle.luf_lex.proofs.TokenLemmas.{length_tokens}
 use Rattle.luf_guard.specs.Space.{IsTokenSpelling}
 use Rattle.luf_min.specs.inner.Next.{IsNext, first, next_apart, next_spaced, IsWritten, last_word}
+use Rattle.luf_min.proofs.TextAgain.{length_spellings}
 use Rattle.luf_min.specs.Text.{IsJoined, nothing, alone, apart, spaced}
 
 -- the last of the words, if there is one
@@ -65,6 +65,5 @@ front_kept old more mid new is kept =
 -- a token that is counted is there
 pub counted : (source : List ℕ) (pieces : List Piece) (n : ℕ) → n < length (toks_of pieces) → None ≡ slice_get (spellings_of source pieces) n → ⊥
 counted source pieces n inside none =
-    let size : length (spellings_of source pieces) ≡ length (toks_of pieces) = length-map (tokens_of pieces) _ ∙ length_tokens pieces in
-    let there = slice_get-get_or (spellings_of source pieces) n [] (omega (arith, size, inside)) in
+    let there = slice_get-get_or (spellings_of source pieces) n [] (omega (arith, length_spellings source pieces, inside)) in
     cc (there, none)

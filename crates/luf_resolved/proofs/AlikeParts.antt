@@ -215,11 +215,12 @@ module _ (toks : List Tok) (all : List ℕ) {M : syntax.Shape} (f g : ShapeMap t
   abbrev FieldPart : ℕ → ℕ → List ℕ → tokens.Field → Type 0
   FieldPart i k after s = Part all i k (dropped_field s after) after (FieldAlike s)
 
-  abbrev BodyAlike : tokens.FunctionBody → Type 0
-  BodyAlike s = (bare_function_body f s ≡ bare_function_body g (bare_function_body (ranks all) s)) × Ranked toks all (occurrences_in_body s) (occurrences_in_body (bare_function_body (ranks all) s))
+  -- behind `function` or the name of a function
+  abbrev BodyAlike : ℕ → tokens.FunctionBody → Type 0
+  BodyAlike i s = (bare_function_body f s ≡ bare_function_body g (bare_function_body (ranks all) s)) × (Opened toks all i → Ranked toks all (occurrences_in_body s) (occurrences_in_body (bare_function_body (ranks all) s)))
 
   abbrev BodyPart : ℕ → ℕ → List ℕ → tokens.FunctionBody → Type 0
-  BodyPart i k after s = Part all i k (dropped_body s after) after (BodyAlike s)
+  BodyPart i k after s = Part all i k (dropped_body s after) after (BodyAlike i s)
 
   abbrev ArmAlike : tokens.Arm → Type 0
   ArmAlike s = (bare_arm f s ≡ bare_arm g (bare_arm (ranks all) s)) × Ranked toks all (occurrences_in_arm s) (occurrences_in_arm (bare_arm (ranks all) s))
@@ -295,13 +296,13 @@ module _ (toks : List Tok) (all : List ℕ) {M : syntax.Shape} (f g : ShapeMap t
   declared_part (grammar.one_declared t d_a) after = to (kept t (attribute_part d_a after)) (λ c. all_more (solid t c.0, c.1) all_none)
   declared_part (grammar.more_declared t d_a c d) after = to (kept t (seq (attribute_part d_a _) (kept c (declared_part d after)))) (λ c. all_more (solid t c.0, c.1.0) c.1.1.1)
 
-  path_part : {i k : ℕ} {path : List ℕ} → IsPath toks i k path → (after : List ℕ) → Part all i k after after (Each SolidAt path)
-  path_part (grammar.path_end t) after = to (kept t none) (λ c. all_more (solid t c.0) all_none)
-  path_part (grammar.path_more t c d) after = to (kept t (kept c (path_part d after))) (λ c. all_more (solid t c.0) c.1.1)
+  path_part : {i k : ℕ} {path : List ℕ} → IsPath toks i k path → (after : List ℕ) → Part all i k after after (Each SolidAt path × Opened toks all k)
+  path_part (grammar.path_end t) after = to (kept t none) (λ c. (all_more (solid t c.0) all_none, opened t c.0))
+  path_part (grammar.path_more t c d) after = to (kept t (kept c (path_part d after))) (λ c. (all_more (solid t c.0) c.1.1.0, c.1.1.1))
 
-  method_part : {i k : ℕ} {m : Option ℕ} → IsMethod toks i k m → (after : List ℕ) → Part all i k after after (SolidMethod m)
-  method_part grammar.no_method after = to none (λ c. tt)
-  method_part (grammar.a_method c t) after = to (kept c (kept t none)) (λ s. (solid t s.1.0, colon_before c s.0))
+  method_part : {i k : ℕ} {m : Option ℕ} → IsMethod toks i k m → (after : List ℕ) → Part all i k after after (SolidMethod m × (Opened toks all i → Opened toks all k))
+  method_part grammar.no_method after = to none (λ c. (tt, (λ o. o)))
+  method_part (grammar.a_method c t) after = to (kept c (kept t none)) (λ s. ((solid t s.1.0, colon_before c s.0), (λ _. opened t s.1.0)))
 
   semicolon_part : {i k : ℕ} → IsSemicolon toks i k → (after : List ℕ) → Part all i k (between i k after) after (Unit {0})
   semicolon_part (grammar.no_semicolon {i}) after = subst (λ z. Part all i i z after (Unit {0})) (sym (between_none i after)) none
@@ -325,10 +326,10 @@ module _ (toks : List Tok) (all : List ℕ) {M : syntax.Shape} (f g : ShapeMap t
     simple_part (grammar.nil_simple {i} {j} t_x) after = subst (ExpressionPart i j after) (sym (nil_syntax i j)) (to (kept t_x none) (λ c. ((λ t. syntax.nil_value (spans (from_to i j) t)), nothing)))
     simple_part (grammar.true_simple {i} {j} t_x) after = subst (ExpressionPart i j after) (sym (true_syntax i j)) (to (kept t_x none) (λ c. ((λ t. syntax.true_value (spans (from_to i j) t)), nothing)))
     simple_part (grammar.false_simple {i} {j} t_x) after = subst (ExpressionPart i j after) (sym (false_syntax i j)) (to (kept t_x none) (λ c. ((λ t. syntax.false_value (spans (from_to i j) t)), nothing)))
-    simple_part (grammar.vararg_simple {i} {j} t_x) after = subst (ExpressionPart i j after) (sym (vararg_syntax i j)) (to (kept t_x none) (λ c. ((λ t. syntax.varargs (spans (from_to i j) t)), more tt refl nothing)))
+    simple_part (grammar.vararg_simple {i} {j} t_x) after = subst (ExpressionPart i j after) (sym (vararg_syntax i j)) (to (kept t_x none) (λ c. ((λ t. syntax.varargs (spans (from_to i j) t)), more (solid t_x c.0) refl nothing)))
     simple_part (grammar.number_simple {i} {j} t_x) after = subst (ExpressionPart i j after) (sym (number_syntax i j)) (to (kept t_x none) (λ c. let s1 = c.0 in ((λ t. syntax.numeral (spans (from_to i j) t) (leaf_at (solid t_x s1) t)), nothing)))
     simple_part (grammar.string_simple {i} {j} t_x) after = subst (ExpressionPart i j after) (sym (string_syntax i j)) (to (kept_string t_x none) (λ c. let s1 = c.0 in ((λ t. syntax.string (spans (from_to i j) t) (leaf_at (solid_string t_x s1) t)), nothing)))
-    simple_part (grammar.function_simple {i} {k} {f} t_x d) after = subst (ExpressionPart i k after) (sym (function_syntax i k f)) (to (kept t_x (func_body_part d after)) (λ c. let b = c.1 in ((λ t. syntax.function (spans (from_to i k) t) (b.0 t)), b.1)))
+    simple_part (grammar.function_simple {i} {k} {f} t_x d) after = subst (ExpressionPart i k after) (sym (function_syntax i k f)) (to (kept t_x (func_body_part d after)) (λ c. let s1 = c.0 in let b = c.1 in ((λ t. syntax.function (spans (from_to i k) t) (b.0 t)), b.1 (opened t_x s1))))
     simple_part (grammar.table_simple {i} {j} {fields} d) after = subst (ExpressionPart i j after) (sym (table_syntax i j fields)) (table_part d after)
     simple_part (grammar.prefix_simple d _) after = prefix_part d after
 
@@ -389,7 +390,7 @@ module _ (toks : List Tok) (all : List ℕ) {M : syntax.Shape} (f g : ShapeMap t
     field_part (grammar.item_field {i} {j} {e} d) after = subst (FieldPart i j after) (sym (item_syntax e)) (to (expr_part d after) (λ c. let o = c in ((λ t. syntax.item_field (o.0 t)), o.1)))
 
     func_body_part : {i k : ℕ} {x : FuncBody} → IsFuncBody toks i k x → (after : List ℕ) → BodyPart i k after (syntax_of_body x)
-    func_body_part (grammar.func_body {i} {p} {params} {vararg} {body} t_l d_params t_r d t_z) after = subst (BodyPart i p after) (sym (body_of_syntax i p params vararg body)) (to (kept t_l (seq (params_part d_params _) (kept t_r (seq (block_part d _) (kept t_z none))))) (λ c. let r = c.1.0 in let s2 = c.1.1.0 in let b = c.1.1.1.0 in ((λ t. syntax.function_body (spans (from_to i p) t) (names_agree r t) vararg (b.0 t)), more tt refl (joined (parameters_alike r (span_of (syntax_of_block body)) (span_of (bare_block (ranks all) (syntax_of_block body))) (block_span (ranks all) (syntax_of_block body))) (b.1 (opened t_r s2))))))
+    func_body_part (grammar.func_body {i} {p} {params} {vararg} {body} t_l d_params t_r d t_z) after = subst (BodyPart i p after) (sym (body_of_syntax i p params vararg body)) (to (kept t_l (seq (params_part d_params _) (kept t_r (seq (block_part d _) (kept t_z none))))) (λ c. let r = c.1.0 in let s2 = c.1.1.0 in let b = c.1.1.1.0 in let s3 = c.1.1.1.1.0 in ((λ t. syntax.function_body (spans (from_to i p) t) (names_agree r t) vararg (b.0 t)), (λ o. more (o, opened t_z s3) refl (joined (parameters_alike r (span_of (syntax_of_block body)) (span_of (bare_block (ranks all) (syntax_of_block body))) (block_span (ranks all) (syntax_of_block body))) (b.1 (opened t_r s2)))))))
 
     pub block_part : {i k : ℕ} {x : Block} → IsBlock toks i k x → (after : List ℕ) → BlockPart i k after (syntax_of_block x)
     block_part (grammar.block {i} {j} {stats} d) after = subst (BlockPart i j after) (sym (block_of_syntax i j stats)) (to (stats_part d after) (λ c. let r = c in ((λ t. syntax.block (spans (from_to i j) t) (r.0 t)), (λ o. r.1 (record { span = from_to i j; end = j; until = false }) o), (λ o end. r.1 (record { span = from_to i j; end = end; until = true }) o))))
@@ -414,11 +415,11 @@ module _ (toks : List Tok) (all : List ℕ) {M : syntax.Shape} (f g : ShapeMap t
     stat_part (grammar.if_stat {i} {o} {arms} {last} t_x d d_other t_z) after = subst (StatementPart i o after) (sym (if_syntax i o arms last)) (to (kept t_x (seq (arms_part d _) (seq (else_part d_other _) (kept t_z none)))) (λ c. let r = c.1.0 in let e = c.1.1.0 in ((λ t. Some (syntax.if_statement (spans (from_to i o) t) (r.0 t) (e.0 t))), (λ holder ended o. joined r.1 e.1))))
     stat_part (grammar.for_stat {i} {j} {s} {first} {limit} {step} {body} t_x t_name t_a d_first t_c d_limit d_step t_y d t_z) after = subst (StatementPart i s after) (sym (for_syntax i s j first limit step body)) (to (kept t_x (kept t_name (kept t_a (seq (expr_part d_first _) (kept t_c (seq (expr_part d_limit _) (seq (for_step_part d_step _) (kept t_y (seq (block_part d _) (kept t_z none)))))))))) (λ c. let s2 = c.1.0 in let u = c.1.1.1.0 in let v = c.1.1.1.1.1.0 in let w = c.1.1.1.1.1.1.0 in let s5 = c.1.1.1.1.1.1.1.0 in let b = c.1.1.1.1.1.1.1.1.0 in ((λ t. Some (syntax.for_statement (spans (from_to i s) t) (name_at (solid t_name s2) t) (u.0 t) (v.0 t) (w.0 t) (b.0 t))), (λ holder ended o. joined (joined (joined (joined (variables_alike (all_more (solid t_name s2) all_none) (span_of (syntax_of_block body)) (span_of (bare_block (ranks all) (syntax_of_block body))) (block_span (ranks all) (syntax_of_block body))) u.1) v.1) w.1) (more {u = Loop (span_of (syntax_of_block body)).from (span_of (syntax_of_block body)).to} {v = loop_of (span_of (bare_block (ranks all) (syntax_of_block body)))} tt (λ t. loop_of (block_span (ranks all) (syntax_of_block body) t)) (b.1 (opened t_y s5)))))))
     stat_part (grammar.for_in_stat {i} {r} {names} {es} {body} t_x d_names t_y d_es t_d d t_z) after = subst (StatementPart i r after) (sym (for_in_syntax i r names es body)) (to (kept t_x (seq (names_part d_names _) (kept t_y (seq (exprs_part d_es _) (kept t_d (seq (block_part d _) (kept t_z none))))))) (λ c. let vs = c.1.0 in let e = c.1.1.1.0 in let s3 = c.1.1.1.1.0 in let b = c.1.1.1.1.1.0 in ((λ t. Some (syntax.for_in_statement (spans (from_to i r) t) (names_agree vs t) (e.0 t) (b.0 t))), (λ holder ended o. joined (joined (variables_alike vs (span_of (syntax_of_block body)) (span_of (bare_block (ranks all) (syntax_of_block body))) (block_span (ranks all) (syntax_of_block body))) e.1) (more {u = Loop (span_of (syntax_of_block body)).from (span_of (syntax_of_block body)).to} {v = loop_of (span_of (bare_block (ranks all) (syntax_of_block body)))} tt (λ t. loop_of (block_span (ranks all) (syntax_of_block body) t)) (b.1 (opened t_d s3)))))))
-    stat_part (grammar.function_stat {i} {o} {path} {method} {f} t_x d_path d_method d) after = subst (StatementPart i o after) (sym (function_stat_syntax i o path method f)) (to (kept t_x (seq (path_part d_path _) (seq (method_part d_method _) (func_body_part d after)))) (λ c. let p = c.1.0 in let m = c.1.1.0 in let b = c.1.1.1 in ((λ t. Some (syntax.function_statement (spans (from_to i o) t) (first_agrees p t) (rest_agrees p t) (method_agrees method m t) (b.0 t))), (λ holder ended opening. joined (joined (path_alike method p m) (method_alike method m (span_of (body_of (syntax_of_body f))) (span_of (body_of (bare_function_body (ranks all) (syntax_of_body f)))) (inner_span (ranks all) (syntax_of_body f)))) b.1))))
-    stat_part (grammar.local_function_stat {i} {k} {o} {f} t_x t_y t_name d) after = subst (StatementPart i o after) (sym (local_function_syntax i o k f)) (to (kept t_x (kept t_y (kept t_name (func_body_part d after)))) (λ c. let s3 = c.1.1.0 in let b = c.1.1.1 in ((λ t. Some (syntax.local_function_statement (spans (from_to i o) t) (name_at (solid t_name s3) t) (b.0 t))), (λ holder ended opening. more (solid t_name s3) (λ t. LocalFunction (rank all k) (body_span (ranks all) (syntax_of_body f) t).from (rank all holder.end)) b.1))))
+    stat_part (grammar.function_stat {i} {o} {path} {method} {f} t_x d_path d_method d) after = subst (StatementPart i o after) (sym (function_stat_syntax i o path method f)) (to (kept t_x (seq (path_part d_path _) (seq (method_part d_method _) (func_body_part d after)))) (λ c. let p = c.1.0 in let m = c.1.1.0 in let b = c.1.1.1 in ((λ t. Some (syntax.function_statement (spans (from_to i o) t) (first_agrees p.0 t) (rest_agrees p.0 t) (method_agrees method m.0 t) (b.0 t))), (λ holder ended opening. joined (joined (path_alike method p.0 m.0) (method_alike method m.0 (span_of (body_of (syntax_of_body f))) (span_of (body_of (bare_function_body (ranks all) (syntax_of_body f)))) (inner_span (ranks all) (syntax_of_body f)))) (b.1 (m.1 p.1))))))
+    stat_part (grammar.local_function_stat {i} {k} {o} {f} t_x t_y t_name d) after = subst (StatementPart i o after) (sym (local_function_syntax i o k f)) (to (kept t_x (kept t_y (kept t_name (func_body_part d after)))) (λ c. let s3 = c.1.1.0 in let b = c.1.1.1 in ((λ t. Some (syntax.local_function_statement (spans (from_to i o) t) (name_at (solid t_name s3) t) (b.0 t))), (λ holder ended opening. more (solid t_name s3) (λ t. LocalFunction (rank all k) (body_span (ranks all) (syntax_of_body f) t).from (rank all holder.end)) (b.1 (opened t_name s3))))))
     stat_part (grammar.label_stat {i} {j} {l} t_x t_name t_y) after = subst (StatementPart i l after) (sym (label_syntax i l j)) (to (kept t_x (kept t_name (kept t_y none))) (λ c. let s2 = c.1.0 in ((λ t. Some (syntax.label (spans (from_to i l) t) (label_at (solid t_name s2) t))), (λ holder ended o. more ((solid t_name s2), o) refl nothing))))
     stat_part (grammar.goto_stat {i} {j} {k} t_x t_name) after = subst (StatementPart i k after) (sym (goto_syntax i k j)) (to (kept t_x (kept t_name none)) (λ c. let s1 = c.0 in let s2 = c.1.0 in ((λ t. Some (syntax.goto_statement (spans (from_to i k) t) (label_at (solid t_name s2) t))), (λ holder ended o. more ((solid t_x s1), (solid t_name s2)) refl nothing))))
-    stat_part (grammar.break_stat {i} {j} t_x) after = subst (StatementPart i j after) (sym (break_syntax i j)) (to (kept t_x none) (λ c. ((λ t. Some (syntax.break_statement (spans (from_to i j) t))), (λ holder ended o. more tt refl nothing))))
+    stat_part (grammar.break_stat {i} {j} t_x) after = subst (StatementPart i j after) (sym (break_syntax i j)) (to (kept t_x none) (λ c. ((λ t. Some (syntax.break_statement (spans (from_to i j) t))), (λ holder ended o. more (solid t_x c.0) refl nothing))))
     stat_part (grammar.empty_stat {i} {j} t_x) after = subst (StatementPart i j after) (sym (empty_syntax i j)) (to (lost t_x none) (λ c. ((refl), (λ holder ended o. nothing))))
 
     targets_part : {i k : ℕ} {x : List Expr} → AreTargets toks i k x → (after : List ℕ) → TargetsPart i k after (expressions_of (map syntax_of_expr x))

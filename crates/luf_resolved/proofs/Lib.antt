@@ -6,3 +6,7 @@ pub mod AlikeParts
 pub mod RankOrder
 pub mod MeaningsAlike
 pub mod ResolvedAlike
+pub mod LocalEnds
+pub mod EndsByGrammar
+pub mod FaultsAlike
+pub mod WrittenFaults

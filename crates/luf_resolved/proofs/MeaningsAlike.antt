@@ -16,7 +16,7 @@ use Rattle.luf_scope.specs.declared.occurrence.Occurrence.TheVariants.{Local, Lo
 use Rattle.luf_resolved.specs.Resolved.{name_meaning, label_number, kinds_of, meanings}
 use Rattle.luf_resolved.proofs.Paired.{Paired, PairedOption, nothing, more, neither, both, filtered, same_last, same_any, same_position, same_map}
 use Rattle.luf_resolved.proofs.Ranking.{Solid, SolidOption, Opened, Sound, ranked_option, ranked_occurrence, Ranked}
-use Rattle.luf_resolved.proofs.RankOrder.{before_alike, reached_alike, equal_alike, opened_alike}
+use Rattle.luf_resolved.proofs.RankOrder.{before_alike, reached_alike, equal_alike, opened_alike, begun_alike}
 
 module _ (toks : List Tok) (all : List ℕ) (spelled told : Spelling) (tells : (i : ℕ) → Solid toks all i → told (rank all i) ≡ spelled i) where
   -- ---- local variables
@@ -43,13 +43,16 @@ module _ (toks : List Tok) (all : List ℕ) (spelled told : Spelling) (tells : (
 
   -- ---- functions
 
-  record RankedFunction (f h : FunctionAt) : Type 0 where
+  pub record RankedFunction (f h : FunctionAt) : Type 0 where
+    opening : Opened toks all f.from
+    closing : Opened toks all f.to
     from : h.from ≡ rank all f.from
     to : h.to ≡ rank all f.to
+    pub vararg : h.vararg ≡ f.vararg
 
-  function_alike : (u : Occurrence) → PairedOption RankedFunction (function_by u) (function_by (ranked_occurrence toks all u))
-  function_alike (Function from to vararg) = both (record { from = refl; to = refl })
-  function_alike _ = neither
+  function_alike : (u : Occurrence) → Sound toks all u → PairedOption RankedFunction (function_by u) (function_by (ranked_occurrence toks all u))
+  function_alike (Function from to vararg) s = both (record { opening = s.0; closing = s.1; from = refl; to = refl; vararg = refl })
+  function_alike _ s = neither
 
   variable_alike : {t : ℕ} → Solid toks all t → (u : Occurrence) → Sound toks all u → is_variable (rank all t) (ranked_occurrence toks all u) ≡ is_variable t u
   variable_alike at (Reads name) s = equal_alike at s
@@ -65,25 +68,26 @@ module _ (toks : List Tok) (all : List ℕ) (spelled told : Spelling) (tells : (
       (λ t. (nat_le (r.from t) (rank all p) && nat_lt (rank all p) (r.to t)) && bytes_eq (r.name t) name)
       ∙ (λ t. (reached_alike at v.from t && before_alike at v.to t) && bytes_eq v.name name)
 
-  held_alike : {p : ℕ} → Solid toks all p → (f h : FunctionAt) → RankedFunction f h → is_held (rank all p) h ≡ is_held p f
-  held_alike {p} at f h r =
-      (λ t. nat_le (r.from t) (rank all p) && nat_lt (rank all p) (r.to t)) ∙ (λ t. reached_alike at f.from t && before_alike at f.to t)
+  held_alike : (p : ℕ) (f h : FunctionAt) → RankedFunction f h → is_held (rank all p) h ≡ is_held p f
+  held_alike p f h r =
+      (λ t. nat_le (r.from t) (rank all p) && nat_lt (rank all p) (r.to t)) ∙ (λ t. begun_alike p r.opening t && opened_alike p r.closing t)
 
   -- ---- labels and gotos
 
-  record RankedLabel (l m : LabelAt) : Type 0 where
-    solid : Solid toks all l.token
+  pub record RankedLabel (l m : LabelAt) : Type 0 where
+    pub solid : Solid toks all l.token
     opening : Opened toks all l.from
-    token : m.token ≡ rank all l.token
-    name : m.name ≡ l.name
-    function : m.function ≡ l.function
-    from : m.from ≡ rank all l.from
-    to : m.to ≡ rank all l.to
+    pub token : m.token ≡ rank all l.token
+    pub name : m.name ≡ l.name
+    pub function : m.function ≡ l.function
+    pub from : m.from ≡ rank all l.from
+    pub to : m.to ≡ rank all l.to
+    pub at_end : m.at_end ≡ l.at_end
 
-  record RankedGoto (g h : GotoAt) : Type 0 where
-    solid : Solid toks all g.token
+  pub record RankedGoto (g h : GotoAt) : Type 0 where
+    pub solid : Solid toks all g.token
     solid_label : Solid toks all g.label
-    token : h.token ≡ rank all g.token
+    pub token : h.token ≡ rank all g.token
     label : h.label ≡ rank all g.label
     name : h.name ≡ g.name
     function : h.function ≡ g.function
@@ -93,9 +97,9 @@ module _ (toks : List Tok) (all : List ℕ) (spelled told : Spelling) (tells : (
       (λ t. option_eq nat_eq (q.function t) (r.function t) && nat_le (q.from t) (r.token t) && nat_lt (r.token t) (q.to t) && bytes_eq (q.name t) (r.name t))
       ∙ (λ t. option_eq nat_eq l.function g.function && reached_alike r.solid l.from t && before_alike r.solid l.to t && bytes_eq l.name g.name)
 
-  record NumberedAlike (x y : ℕ × LabelAt) : Type 0 where
+  pub record NumberedAlike (x y : ℕ × LabelAt) : Type 0 where
     number : y.0 ≡ x.0
-    label : RankedLabel x.1 y.1
+    pub label : RankedLabel x.1 y.1
 
   inner_alike : (n : ℕ) {l m : LabelAt} {o p : Option (ℕ × LabelAt)} → RankedLabel l m → PairedOption NumberedAlike o p → NumberedAlike (inner n l o) (inner n m p)
   inner_alike n q neither = record { number = refl; label = q }
@@ -111,7 +115,7 @@ module _ (toks : List Tok) (all : List ℕ) (spelled told : Spelling) (tells : (
   chosen_alike true n q r = both (inner_alike n q r)
   chosen_alike false n q r = r
 
-  innermost_alike : {g h : GotoAt} → RankedGoto g h → {ls ms : List LabelAt} → Paired RankedLabel ls ms → (n : ℕ) → PairedOption NumberedAlike (innermost (is_seen g.function g.token g.name) n ls) (innermost (is_seen h.function h.token h.name) n ms)
+  pub innermost_alike : {g h : GotoAt} → RankedGoto g h → {ls ms : List LabelAt} → Paired RankedLabel ls ms → (n : ℕ) → PairedOption NumberedAlike (innermost (is_seen g.function g.token g.name) n ls) (innermost (is_seen h.function h.token h.name) n ms)
   innermost_alike r nothing n = neither
   innermost_alike {g} {h} r (more {x} {y} {xs} {ys} q rest) n =
       subst (λ b. PairedOption NumberedAlike (innermost (is_seen g.function g.token g.name) n (x ∷ xs)) (cond b (Some (inner n y (innermost (is_seen h.function h.token h.name) (n + 1) ys))) (innermost (is_seen h.function h.token h.name) (n + 1) ys)))
@@ -130,33 +134,33 @@ module _ (toks : List Tok) (all : List ℕ) (spelled told : Spelling) (tells : (
   -- ---- what a chunk says, and the same by ranks
 
   module _ {us vs : List Occurrence} (ranked : Ranked toks all us vs) where
-    locals_alike : Paired RankedLocal (locals_of spelled us) (locals_of told vs)
+    pub locals_alike : Paired RankedLocal (locals_of spelled us) (locals_of told vs)
     locals_alike = filtered (declared_by spelled) (declared_by told) (λ u v r. subst (λ z. PairedOption RankedLocal (declared_by spelled u) (declared_by told z)) (sym r.is) (declared_alike u r.sound)) ranked
 
-    functions_alike : Paired RankedFunction (functions_of us) (functions_of vs)
-    functions_alike = filtered function_by function_by (λ u v r. subst (λ z. PairedOption RankedFunction (function_by u) (function_by z)) (sym r.is) (function_alike u)) ranked
+    pub functions_alike : Paired RankedFunction (functions_of us) (functions_of vs)
+    functions_alike = filtered function_by function_by (λ u v r. subst (λ z. PairedOption RankedFunction (function_by u) (function_by z)) (sym r.is) (function_alike u r.sound)) ranked
 
-    holder_alike : {p : ℕ} → Solid toks all p → function_of (functions_of vs) (rank all p) ≡ function_of (functions_of us) p
-    holder_alike {p} at = same_last (is_held p) (is_held (rank all p)) (held_alike at) functions_alike 0
+    pub holder_alike : (p : ℕ) → function_of (functions_of vs) (rank all p) ≡ function_of (functions_of us) p
+    holder_alike p = same_last (is_held p) (is_held (rank all p)) (held_alike p) functions_alike 0
 
     label_alike : (u : Occurrence) → Sound toks all u → PairedOption RankedLabel (label_by spelled (functions_of us) u) (label_by told (functions_of vs) (ranked_occurrence toks all u))
-    label_alike (Label name from to at_end) s = both (record { solid = s.0; opening = s.1; token = refl; name = tells name s.0; function = holder_alike s.0; from = refl; to = refl })
+    label_alike (Label name from to at_end) s = both (record { solid = s.0; opening = s.1; token = refl; name = tells name s.0; function = holder_alike name; from = refl; to = refl; at_end = refl })
     label_alike _ s = neither
 
     jumper_alike : (u : Occurrence) → Sound toks all u → PairedOption RankedGoto (goto_by spelled (functions_of us) u) (goto_by told (functions_of vs) (ranked_occurrence toks all u))
-    jumper_alike (Goto token name) s = both (record { solid = s.0; solid_label = s.1; token = refl; label = refl; name = tells name s.1; function = holder_alike s.0 })
+    jumper_alike (Goto token name) s = both (record { solid = s.0; solid_label = s.1; token = refl; label = refl; name = tells name s.1; function = holder_alike token })
     jumper_alike _ s = neither
 
-    labels_alike : Paired RankedLabel (labels_of spelled us) (labels_of told vs)
+    pub labels_alike : Paired RankedLabel (labels_of spelled us) (labels_of told vs)
     labels_alike = filtered (label_by spelled (functions_of us)) (label_by told (functions_of vs)) (λ u v r. subst (λ z. PairedOption RankedLabel (label_by spelled (functions_of us) u) (label_by told (functions_of vs) z)) (sym r.is) (label_alike u r.sound)) ranked
 
-    gotos_alike : Paired RankedGoto (gotos_of spelled us) (gotos_of told vs)
+    pub gotos_alike : Paired RankedGoto (gotos_of spelled us) (gotos_of told vs)
     gotos_alike = filtered (goto_by spelled (functions_of us)) (goto_by told (functions_of vs)) (λ u v r. subst (λ z. PairedOption RankedGoto (goto_by spelled (functions_of us) u) (goto_by told (functions_of vs) z)) (sym r.is) (jumper_alike u r.sound)) ranked
 
     pub kinds_alike : kinds_of told vs ≡ kinds_of spelled us
     kinds_alike = same_map (λ v. v.kind) (λ w. w.kind) (λ v w r. r.kind) locals_alike
 
-    meaning_alike : {p : ℕ} → Solid toks all p → (name : List ℕ) → meaning (locals_of told vs) (rank all p) name ≡ meaning (locals_of spelled us) p name
+    pub meaning_alike : {p : ℕ} → Solid toks all p → (name : List ℕ) → meaning (locals_of told vs) (rank all p) name ≡ meaning (locals_of spelled us) p name
     meaning_alike {p} at name = same_last (λ v. is_active p v && bytes_eq v.name name) (λ w. is_active (rank all p) w && bytes_eq w.name name) (active_alike at name) locals_alike 0
 
     declared_at_alike : {t : ℕ} → Solid toks all t → declared_at (locals_of told vs) (rank all t) ≡ declared_at (locals_of spelled us) t

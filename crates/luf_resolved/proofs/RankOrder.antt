@@ -49,8 +49,8 @@ module _ {toks : List Tok} {all : List ℕ} where
       by_case (inr differ) = ne_eqb (rank all p) (rank all q) (apart s u differ) ∙ sym (ne_eqb p q differ)
 
   -- blocks begin in the same order
-  pub opened_alike : (x : ℕ) {y : ℕ} → Opened toks all y → nat_lt (rank all x) (rank all y) ≡ nat_lt x y
-  opened_alike x {y} opening = lt_alike (forward opening, backward (cases_lt x y))
+  opened_order : (x : ℕ) {y : ℕ} → Opened toks all y → (x < y) ↔ (rank all x < rank all y)
+  opened_order x {y} opening = (forward opening, backward (cases_lt x y))
     where
       forward : Opened toks all y → x < y → rank all x < rank all y
       forward (inl first) less = absurd (omega (arith, first, less))
@@ -59,6 +59,12 @@ module _ {toks : List Tok} {all : List ℕ} where
       backward : (x < y) ⊎ (y ≤ x) → rank all x < rank all y → x < y
       backward (inl less) _ = less
       backward (inr le) less = absurd (omega (arith, less, rank_up all y x le))
+
+  pub opened_alike : (x : ℕ) {y : ℕ} → Opened toks all y → nat_lt (rank all x) (rank all y) ≡ nat_lt x y
+  opened_alike x opening = lt_alike (opened_order x opening)
+
+  pub begun_alike : (x : ℕ) {y : ℕ} → Opened toks all y → nat_le (rank all y) (rank all x) ≡ nat_le y x
+  begun_alike x opening = le_alike (opened_order x opening)
 
 -- ---- the significant token of a rank
 

@@ -27,7 +27,7 @@ module _ (toks : List Tok) (all : List ℕ) where
     pub next : i ≡ before + 1
     pub solid : Solid before
 
-  -- the first place, or one behind a significant token, as the first of each block is
+  -- the first place, or one behind a significant token, as the first of each block is, and where a function begins and ends
   abbrev pub Opened : ℕ → Type 0
   Opened i = (i ≡ 0) ⊎ Behind i
 
@@ -40,12 +40,12 @@ module _ (toks : List Tok) (all : List ℕ) where
   Sound (Reads name) = Solid name
   Sound (Assigns name) = Solid name
   Sound (Field name) = Solid name
-  Sound (Varargs token) = Unit {0}
-  Sound (Function from to vararg) = Unit {0}
+  Sound (Varargs token) = Solid token
+  Sound (Function from to vararg) = Opened from × Opened to
   Sound (Loop from to) = Unit {0}
   Sound (Label name from to at_end) = Solid name × Opened from
   Sound (Goto token name) = Solid token × Solid name
-  Sound (Break token) = Unit {0}
+  Sound (Break token) = Solid token
 
   abbrev pub ranked_option : Option ℕ → Option ℕ
   ranked_option None = None

@@ -31,7 +31,7 @@ use Rattle.luf_resolved.proofs.MeaningsAlike.{kinds_alike, name_alike, number_al
 abbrev forgetful : ShapeMap tokens.Tokens (Bare (Unit {0}))
 forgetful = words_of (λ _. tt)
 
-occurrences_ranked : (toks : List Tok) (chunk : Chunk) → IsChunk toks chunk → Ranked toks (dropped_block (syntax_of chunk) []) (occurrences_in_block (syntax_of chunk)) (occurrences_in_block (ranked (syntax_of chunk)))
+pub occurrences_ranked : (toks : List Tok) (chunk : Chunk) → IsChunk toks chunk → Ranked toks (dropped_block (syntax_of chunk) []) (occurrences_in_block (syntax_of chunk)) (occurrences_in_block (ranked (syntax_of chunk)))
 occurrences_ranked toks chunk derived =
     (claimed (block_part toks (dropped_block (syntax_of chunk) []) forgetful forgetful (λ s. refl) (λ i s. refl) (λ i s. refl) (λ i s. refl) derived [])).1 (inl refl)
 
@@ -55,7 +55,7 @@ told_by_words : (says : ℕ → SpelledToken) (chunk : tokens.Block) (n rank : �
 told_by_words says chunk n rank =
     ap (λ z. unwrap_or z []) (sym (option_after says (λ (w : SpelledToken). w.spelling) (slice_get (significant chunk n) rank)) ∙ ap (option_map (λ (w : SpelledToken). w.spelling)) (sym (slice_get-map says (significant chunk n) rank)))
 
-told_alike : (source : List SpelledToken) (chunk : Chunk) (text : List TextWord) (back : IsReadBack source chunk text) (rank : ℕ)
+pub told_alike : (source : List SpelledToken) (chunk : Chunk) (text : List TextWord) (back : IsReadBack source chunk text) (rank : ℕ)
     → by_rank (λ i. (word_at text i).spelled.spelling) (syntax_of back.read.tree) (length (map token_of text)) rank
     ≡ by_rank (λ i. (spelled_at source i).spelling) (syntax_of chunk) (length (map (λ (w : SpelledToken). w.token) source)) rank
 told_alike source chunk text back rank =

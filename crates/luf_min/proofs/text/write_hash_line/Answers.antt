@@ -1,7 +1,8 @@
 use Rattle.std.proofs.Common.{take, ap, arith, ◌∙◌, ◌≡◌, ◌++◌}
 use Rattle.std.proofs.lemmas.List.{take_all}
 use Rattle.luf_min.specs.Text.{hash_text}
-use Rattle.luf_min.proofs.HashLine.{hash_text_first, first_within}
+use Rattle.luf_min.proofs.TextAgain.{hash_text_first}
+use Rattle.luf_min.proofs.PiecesWithin.{first_within}
 use Rattle.luf_min.proofs.TextLemmas.{front_kept}
 use Rattle.luf_min.proofs.text.write_hash_line.Goals as goal
 

@@ -1,19 +1,9 @@
--- The `#` line of a cut: where it stands among the pieces.
-use Rattle.std.proofs.Common.{◌≡◌, ℕ, zero, suc, ◌+◌, ◌<◌, ◌≤◌, Bool, true, false, cond, eqb, List, [], ◌∷◌, ◌++◌, length, take, drop, codes, get_or, refl, sym, ap, ◌∙◌, subst, arith}
-use Rattle.std.specs.Prelude.{slice_range}
-use Rattle.std.proofs.lemmas.Bool.{false≢true}
+-- The pieces of a cut lie in the source.
+use Rattle.std.proofs.Common.{◌≡◌, ℕ, zero, suc, ◌+◌, ◌<◌, ◌≤◌, Bool, true, false, cond, eqb, List, [], ◌∷◌, ◌++◌, length, take, get_or, sym, ap, ◌∙◌, subst, arith}
 use Rattle.std.proofs.lemmas.List.{length-take, get_or-take}
-use Rattle.luf_lex.specs.First.{is_tried, group_of}
-use Rattle.luf_lex.specs.declared.group.Group.{Group}
-use Rattle.luf_lex.specs.declared.group.Group.TheVariants.{Quoted}
 use Rattle.luf_lex.specs.Cut.{Cuts, IsCut, mark_length, head_of, head_end}
-use Rattle.luf_lex.specs.declared.token.Kind.{Kind}
 use Rattle.luf_lex.specs.declared.token.Kind.TheVariants.{HashLine, Mark}
 use Rattle.luf_lex.specs.declared.token.Piece.{Piece}
-use Rattle.luf_min.specs.Text.{is_hash_line, hash_text}
-
-abbrev bytes_of : List ℕ → Piece → List ℕ
-bytes_of source p = slice_range source p.span.from p.span.to
 
 -- what stands at the head of a source, where a mark ends at m and a `#` line at n
 abbrev pub marked : Bool → ℕ → List Piece
@@ -21,47 +11,6 @@ marked none m = cond none [] (record { kind = Mark; span = record { from = 0; to
 
 abbrev pub hashed : Bool → ℕ → ℕ → List Piece
 hashed none m n = cond none [] (record { kind = HashLine; span = record { from = m; to = n } } ∷ [])
-no_hash_tried : (g : Group) → is_tried g HashLine ≡ true → ⊥
-no_hash_tried Quoted h = false≢true h
-no_hash_tried _ h = false≢true h
-
-tried_no_hash : (g : Group) (k : Kind) → is_tried g k ≡ true → is_hash_line k ≡ false
-tried_no_hash g HashLine h = absurd (no_hash_tried g h)
-tried_no_hash g _ h = refl
-
--- no `#` line stands behind the head
-no_hash_behind : (source : List ℕ) (at : ℕ) (pieces : List Piece) (to : ℕ) → Cuts source at pieces to → hash_text source pieces ≡ []
-no_hash_behind source at [] to cut = refl
-no_hash_behind source at (p ∷ pieces) to cut =
-    ap (λ v. cond v (bytes_of source p ++ codes "\n") [] ++ hash_text source pieces) (tried_no_hash (group_of (drop at source)) p.kind cut.2.tried)
-    ∙ no_hash_behind source p.span.to pieces to cut.3
-
--- nor among the first pieces behind it
-no_hash_first : (source : List ℕ) (at : ℕ) (pieces : List Piece) (to count : ℕ) → Cuts source at pieces to → hash_text source (take count pieces) ≡ []
-no_hash_first source at pieces to zero cut = refl
-no_hash_first source at [] to (suc count) cut = refl
-no_hash_first source at (p ∷ pieces) to (suc count) cut =
-    ap (λ v. cond v (bytes_of source p ++ codes "\n") [] ++ hash_text source (take count pieces)) (tried_no_hash (group_of (drop at source)) p.kind cut.2.tried)
-    ∙ no_hash_first source p.span.to pieces to count cut.3
-
-first_two : (source : List ℕ) (v w : Bool) (m n : ℕ) (rest : List Piece) → ((count : ℕ) → hash_text source (take count rest) ≡ hash_text source rest)
-    → hash_text source (take 2 ((marked v m ++ hashed w m n) ++ rest)) ≡ hash_text source ((marked v m ++ hashed w m n) ++ rest)
-first_two source true true m n rest none = none 2
-first_two source true false m n rest none = ap (λ t. (slice_range source m n ++ codes "\n") ++ t) (none 1)
-first_two source false true m n rest none = none 1
-first_two source false false m n rest none = ap (λ t. (slice_range source m n ++ codes "\n") ++ t) (none 0)
-
--- so it is the first piece or the second
-pub hash_text_first : (source : List ℕ) (pieces : List Piece) → IsCut source pieces → hash_text source (take 2 pieces) ≡ hash_text source pieces
-hash_text_first source pieces cut =
-    let none = no_hash_behind source (head_end source) cut.rest (length source) cut.cut in
-    ap (λ (ps : List Piece). hash_text source (take 2 ps)) cut.head
-    ∙ first_two source (eqb (mark_length source) 0) (eqb (head_end source) (mark_length source)) (mark_length source) (head_end source) cut.rest
-    (λ count. no_hash_first source (head_end source) cut.rest (length source) count cut.cut ∙ sym none)
-    ∙ ap (hash_text source) (sym cut.head)
-
--- ---- within the source
-
 -- each piece of a cut lies in the source
 order : (source : List ℕ) (at : ℕ) (pieces : List Piece) (to : ℕ) → Cuts source at pieces to → at ≤ to
 order source at [] to cut = omega (arith, cut)

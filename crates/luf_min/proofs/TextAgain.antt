@@ -1,4 +1,4 @@
--- The text of a source has its tokens.
+-- The text of tokens has them, behind the `#` line of a source.
 use Rattle.std.proofs.Common.{◌≡◌, ℕ, zero, suc, ◌+◌, ◌-◌, ◌<◌, Bool, true, false, cond, eqb, not, ◌&&◌, List, [], ◌∷◌, ◌++◌, Some, length, length-append, append-nil, append_assoc, take, drop, codes, refl, sym, ap, ◌∙◌, subst, arith}
 use Rattle.std.specs.List.{prefix_len}
 use Rattle.std.specs.Prelude.{slice_range, slice_get, map}
@@ -16,23 +16,21 @@ use Rattle.luf_lex.specs.declared.group.Group.TheVariants.{Quoted}
 use Rattle.luf_lex.specs.Cut.{Cuts, IsCut, mark_length, hash_length, head_of, head_end}
 use Rattle.luf_lex.specs.Tokens.{tokens_of, toks_of, spellings_of}
 use Rattle.luf_lex.specs.declared.token.Tok.{Tok}
+use Rattle.luf_lex.specs.declared.token.Tok.TheVariants.{Sign}
+use Rattle.luf_lex.specs.declared.token.Sign.TheVariants.{Hash}
 use Rattle.luf_lex.specs.declared.token.Kind.{Kind}
 use Rattle.luf_lex.specs.declared.token.Kind.TheVariants.{Token, LineEnd, HashLine, Mark}
 use Rattle.luf_lex.specs.declared.token.Piece.{Piece}
 use Rattle.luf_lex.proofs.RunLemmas.{front_passes, begins_take}
 use Rattle.luf_lex.proofs.TokenLemmas.{length_tokens}
 use Rattle.luf_lex.proofs.PlainLemmas.{line_end_first}
-use Rattle.luf_tree.specs.declared.tree.Chunk.{Chunk}
-use Rattle.luf_tree.specs.Grammar.{At, IsChunk}
-use Rattle.luf_tree.proofs.TokenLaws.{chunk_no_hash, bracket_no_equal}
-use Rattle.luf_work.specs.Minify.{SameTokens}
-use Rattle.luf_work.specs.Source.{IsSource}
-use Rattle.luf_work.specs.Text.{IsJoined, nothing, alone, apart, spaced, is_hash_line, hash_text}
+use Rattle.luf_tree.specs.Grammar.{At}
+use Rattle.luf_min.specs.Text.{IsJoined, nothing, alone, apart, spaced, is_hash_line, hash_text}
 use Rattle.luf_guard.proofs.Before.{spelled_some}
 use Rattle.luf_lex.proofs.PieceSpellings.{SpelledAt, spelled_at}
 use Rattle.luf_guard.proofs.Words.{run_before, begins_some, begins_front}
-use Rattle.luf_work.proofs.FirstByte.{no_line, no_mark, no_hash}
-use Rattle.luf_work.proofs.TokensCut.{Spelled, BracketsStop, TextCut, with_other, text_cut}
+use Rattle.luf_min.proofs.FirstByte.{no_line, no_mark, no_hash}
+use Rattle.luf_min.proofs.TokensCut.{Spelled, BracketsStop, TextCut, with_other, text_cut}
 
 -- ---- the tokens of a cut
 
@@ -52,7 +50,7 @@ all_spelled (t ∷ toks) (a ∷ spellings) size each =
     let same : one.0 ≡ t = cc (one.1) in
     (subst (λ (u : Tok). Spells (Token u) a) same one.2, all_spelled toks spellings (omega (arith, size)) (λ n b found. each (suc n) b found))
 
-spelled_in : (source : List ℕ) (pieces : List Piece) → IsCut source pieces → Spelled (toks_of pieces) (spellings_of source pieces)
+pub spelled_in : (source : List ℕ) (pieces : List Piece) → IsCut source pieces → Spelled (toks_of pieces) (spellings_of source pieces)
 spelled_in source pieces cut = all_spelled (toks_of pieces) (spellings_of source pieces) (length_spellings source pieces) (spelled_at source pieces cut)
 
 -- ---- the head of a cut
@@ -225,65 +223,54 @@ feed_first x stop = line_end_first (10 ∷ x) 1 refl refl (feed_length x stop)
 
 -- ---- the tokens of the text
 
--- a text that is cut into the tokens of a source behind its own head, which has the `#` line of the source
-whole : (source text : List ℕ) (pieces : List Piece) (chunk : Chunk) → IsSource source pieces chunk → TextCut text (head_end text) (toks_of pieces) (spellings_of source pieces)
-    → ((others : List Piece) → IsCut text others → hash_text text others ≡ hash_text source pieces) → SameTokens source text
-whole source text pieces chunk is again hash =
+-- a text with these tokens, spelled so, and the `#` line of a source
+pub record TextAgain (source : List ℕ) (pieces : List Piece) (toks : List Tok) (spellings : List (List ℕ)) (text : List ℕ) : Type 0 where
+  pub others : List Piece
+  pub cut : IsCut text others
+  pub toks_are : toks_of others ≡ toks
+  pub spellings_are : spellings_of text others ≡ spellings
+  pub hash : hash_text text others ≡ hash_text source pieces
+
+-- a text that is cut into tokens behind its own head
+whole : (source text : List ℕ) (pieces : List Piece) (toks : List Tok) (spellings : List (List ℕ)) → TextCut text (head_end text) toks spellings
+    → ((others : List Piece) → IsCut text others → hash_text text others ≡ hash_text source pieces) → TextAgain source pieces toks spellings text
+whole source text pieces toks spellings again hash =
     let behind = toks_behind text again.pieces in
     let cut : IsCut text (head_of text ++ again.pieces) = record { rest = again.pieces; head = refl; cut = again.cut } in
-    let toks : toks_of (head_of text ++ again.pieces) ≡ toks_of pieces = behind.0 ∙ again.toks_are in
-    record {
-      pieces = pieces;
-      others = head_of text ++ again.pieces;
-      chunk = chunk;
-      is = is;
-      same = record {
-        cut = cut;
-        tree = subst (λ (ts : List Tok). IsChunk ts chunk) (sym toks) is.tree;
-        levels = is.levels;
-      };
-      toks = toks;
-      spellings = behind.1 ∙ again.spellings_are;
-      hash = hash (head_of text ++ again.pieces) cut;
-    }
+    record { others = head_of text ++ again.pieces; cut = cut; toks_are = behind.0 ∙ again.toks_are; spellings_are = behind.1 ∙ again.spellings_are; hash = hash (head_of text ++ again.pieces) cut }
 
-pub same_tokens : (source : List ℕ) (pieces : List Piece) (chunk : Chunk) (tokens : List ℕ) → IsSource source pieces chunk → IsJoined (spellings_of source pieces) tokens → SameTokens source (hash_text source pieces ++ tokens)
-same_tokens source pieces chunk tokens is joined = by_head (eqb (head_end source) (mark_length source)) refl
+pub text_again : (source : List ℕ) (pieces : List Piece) (toks : List Tok) (spellings : List (List ℕ)) (tokens : List ℕ) → IsCut source pieces → Spelled toks spellings → BracketsStop toks → (At toks 0 (Sign Hash) → ⊥) → IsJoined spellings tokens
+    → TextAgain source pieces toks spellings (hash_text source pieces ++ tokens)
+text_again source pieces toks spellings tokens is_cut spelled brackets no_hash_first joined = by_head (eqb (head_end source) (mark_length source)) refl
   where
-    spelled : Spelled (toks_of pieces) (spellings_of source pieces)
-    spelled = spelled_in source pieces is.cut
-
-    brackets : BracketsStop (toks_of pieces)
-    brackets k bracket = bracket_no_equal (toks_of pieces) chunk is.tree k bracket
-
     mark : begins (λ b. eqb 239 b) tokens ≡ false
-    mark = joined_apart (λ b. eqb 239 b) (toks_of pieces) joined spelled (λ t a at h. no_mark t a h)
+    mark = joined_apart (λ b. eqb 239 b) toks joined spelled (λ t a at h. no_mark t a h)
 
     hash : begins (λ b. eqb b 35) tokens ≡ false
-    hash = joined_apart (λ b. eqb b 35) (toks_of pieces) joined spelled (λ t a at h. no_hash t a h (λ e. chunk_no_hash (toks_of pieces) chunk is.tree (at ∙ ap Some e)))
+    hash = joined_apart (λ b. eqb b 35) toks joined spelled (λ t a at h. no_hash t a h (λ e. no_hash_first (at ∙ ap Some e)))
 
     line : begins is_line_byte tokens ≡ false
-    line = joined_apart is_line_byte (toks_of pieces) joined spelled (λ t a at h. no_line t a h)
+    line = joined_apart is_line_byte toks joined spelled (λ t a at h. no_line t a h)
 
-    by_head : (v : Bool) → eqb (head_end source) (mark_length source) ≡ v → SameTokens source (hash_text source pieces ++ tokens)
+    by_head : (v : Bool) → eqb (head_end source) (mark_length source) ≡ v → TextAgain source pieces toks spellings (hash_text source pieces ++ tokens)
     by_head true none =
-        let text : hash_text source pieces ++ tokens ≡ tokens = ap (λ h. h ++ tokens) (hash_text_none source pieces is.cut none) in
+        let text : hash_text source pieces ++ tokens ≡ tokens = ap (λ h. h ++ tokens) (hash_text_none source pieces is_cut none) in
         let no_mark : mark_length tokens ≡ 0 = no_mark_length tokens mark in
         let end : head_end tokens ≡ 0 = end_of tokens 0 no_mark (no_hash_length tokens hash) in
-        subst (λ t. SameTokens source t) (sym text) (whole source tokens pieces chunk is
-        (subst (λ i. TextCut tokens i (toks_of pieces) (spellings_of source pieces)) (sym end)
-        (text_cut tokens 0 (toks_of pieces) joined spelled brackets (omega arith) refl))
-        (λ others cut. hash_text_plain tokens others cut no_mark end ∙ sym (hash_text_none source pieces is.cut none)))
+        subst (λ t. TextAgain source pieces toks spellings t) (sym text) (whole source tokens pieces toks spellings
+        (subst (λ i. TextCut tokens i toks spellings) (sym end)
+        (text_cut tokens 0 toks joined spelled brackets (omega arith) refl))
+        (λ others cut. hash_text_plain tokens others cut no_mark end ∙ sym (hash_text_none source pieces is_cut none)))
     by_head false some =
         let front : List ℕ = slice_range source (mark_length source) (head_end source) in
         let all : List ℕ = front ++ 10 ∷ tokens in
-        let text : hash_text source pieces ++ tokens ≡ all = ap (λ h. h ++ tokens) (hash_text_there source pieces is.cut some) ∙ append_assoc front (codes "\n") tokens in
+        let text : hash_text source pieces ++ tokens ≡ all = ap (λ h. h ++ tokens) (hash_text_there source pieces is_cut some) ∙ append_assoc front (codes "\n") tokens in
         let behind : drop (length front) all ≡ 10 ∷ tokens = drop-append_seam front (10 ∷ tokens) in
         let line_in : IsHashLine front = hash_line_in source some in
         let end : head_end all ≡ length front = hash_end front tokens line_in in
-        subst (λ t. SameTokens source t) (sym text) (whole source all pieces chunk is
-        (subst (λ i. TextCut all i (toks_of pieces) (spellings_of source pieces)) (sym end)
-        (with_other all (length front) LineEnd (codes "\n") tokens (toks_of pieces) (spellings_of source pieces) refl refl behind (feed_first tokens line)
-        (text_cut all (length front + 1) (toks_of pieces) joined spelled brackets (omega (arith, length-append front (10 ∷ tokens)))
+        subst (λ t. TextAgain source pieces toks spellings t) (sym text) (whole source all pieces toks spellings
+        (subst (λ i. TextCut all i toks spellings) (sym end)
+        (with_other all (length front) LineEnd (codes "\n") tokens toks spellings refl refl behind (feed_first tokens line)
+        (text_cut all (length front + 1) toks joined spelled brackets (omega (arith, length-append front (10 ∷ tokens)))
         (sym (drop-drop 1 (length front) all) ∙ ap (drop 1) behind))))
-        (λ others cut. hash_text_front front tokens others line_in cut ∙ sym (hash_text_there source pieces is.cut some)))
+        (λ others cut. hash_text_front front tokens others line_in cut ∙ sym (hash_text_there source pieces is_cut some)))
