@@ -1,5 +1,6 @@
 -- The items of a chunk are spelled as the words of its minified text.
 use Rattle.std.proofs.Common.{◌≡◌, ℕ, zero, suc, ◌+◌, ◌<◌, List, [], ◌∷◌, ◌++◌, map, length, get_or, All, refl, sym, ap, ◌∙◌, subst, arith}
+use Rattle.std.proofs.lemmas.List.Elements.{All-head, All-tail}
 use Rattle.luf_lex.specs.Tokens.{toks_of}
 use Rattle.luf_lex.specs.declared.token.Tok.{Tok}
 use Rattle.luf_lex.specs.declared.token.Tok.TheVariants as tok
@@ -60,7 +61,10 @@ module _ (spelled : Spelling) (toks : List Tok) where
 
   all_spelled : {items : List Item} {words : List TextWord} → Paired IsWord items words → All (IsWithin (length toks)) items → map (spelling_of spelled) items ≡ spellings words
   all_spelled nothing within = refl
-  all_spelled (more {x} is there) within = λ i. (item_spelled x within.0 ∙ ap (λ (w : SpelledToken). w.spelling) is) i ∷ all_spelled there within.1 i
+  all_spelled (more {x} {xs} is there) within =
+      let here : spelling_of spelled x ≡ (spelled_item x).spelling = item_spelled x (All-head (IsWithin (length toks)) x xs within) in
+      let rest = all_spelled there (All-tail (IsWithin (length toks)) x xs within) in
+      λ i. (here ∙ ap (λ (w : SpelledToken). w.spelling) is) i ∷ rest i
 
   pub items_spelled : (chunk : Chunk) → IsChunk toks chunk → map (spelling_of spelled) (items_in_block toks (syntax_of chunk)) ≡ spellings (minified_words spelled toks chunk)
   items_spelled chunk derived =

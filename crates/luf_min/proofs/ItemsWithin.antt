@@ -2,6 +2,7 @@
 use Rattle.std.proofs.Common.{◌≡◌, ℕ, ◌<◌, ◌≤◌, ◌⊎◌, Bool, true, false, Option, Some, None, List, [], ◌∷◌, length, get_or, slice_get, All, refl, sym, ap, ◌∙◌, subst, arith, ⊎_elim}
 use Rattle.std.proofs.lemmas.Bool.{false≢true, cases_lt}
 use Rattle.std.proofs.lemmas.List.{get_or_past, get_or_default}
+use Rattle.std.proofs.lemmas.List.Elements.{All-nil, All-cons}
 use Rattle.std.proofs.lemmas.Option.{get_or_from_slice_get}
 use Rattle.luf_lex.specs.declared.token.Tok.{Tok}
 use Rattle.luf_lex.specs.declared.token.Tok.TheVariants as tok
@@ -82,8 +83,8 @@ mark_within toks (put t) sound = item_within (length toks) t
 mark_within toks (added t) sound = item_within (length toks) t
 
 all_within : (toks : List Tok) {marks : List Mark} {items : List Item} → Each (Sound (kind_at toks) is_added) marks → Paired IsItem marks items → All (IsWithin (length toks)) items
-all_within toks all_none nothing = tt
-all_within toks (all_more {x} sound all) (more is there) = (subst (IsWithin (length toks)) is (mark_within toks x sound), all_within toks all there)
+all_within toks all_none nothing = All-nil (IsWithin (length toks))
+all_within toks (all_more {x = m} sound all) (more {y} {ys} is there) = All-cons (IsWithin (length toks)) y ys (subst (IsWithin (length toks)) is (mark_within toks m sound)) (all_within toks all there)
 
 pub items_within : (toks : List Tok) (chunk : Chunk) → IsChunk toks chunk → All (IsWithin (length toks)) (items_in_block toks (syntax_of chunk))
 items_within toks chunk derived =

@@ -1,5 +1,5 @@
 -- What is written of statements and arguments, as the functions decide it.
-use Rattle.std.proofs.Common.{◌≡◌, ℕ, Bool, true, false, cond, ◌&&◌, Option, Some, None, List, [], ◌∷◌, ◌++◌, refl, sym, ap, ◌∙◌, append_assoc}
+use Rattle.std.proofs.Common.{◌≡◌, ℕ, Bool, true, false, cond, not, ◌&&◌, Option, Some, None, List, [], ◌∷◌, ◌++◌, refl, sym, ap, ◌∙◌, append_assoc}
 use Rattle.luf_lex.specs.declared.token.Tok.{Tok}
 use Rattle.luf_lex.specs.declared.token.Sign.TheVariants as sign
 use Rattle.luf_tree.specs.Syntax as syntax
@@ -25,7 +25,7 @@ module _ (toks : List Tok) where
   guard_split true (x ∷ words) more = if_split (opens (kind_of toks x)) (x ∷ words) more
 
   -- a `;` by itself writes nothing
-  pub skipped : (s : tokens.Statement) (others : Bool) (rest : tokens.Statements) → is_empty s ≡ true → items_in_statements toks others (syntax.more_statements s rest) ≡ items_in_statements toks others rest
+  skipped : (s : tokens.Statement) (others : Bool) (rest : tokens.Statements) → is_empty s ≡ true → items_in_statements toks others (syntax.more_statements s rest) ≡ items_in_statements toks others rest
   skipped (syntax.empty_statement span) others rest e = refl
   skipped _ others rest e = cc
 
@@ -33,7 +33,7 @@ module _ (toks : List Tok) where
   one_written s others rest = guard_split others (written_statement (kind_of toks) item_of added_items never_trails s) (items_in_statements toks true rest)
 
   -- any other is written behind its guard
-  pub one_more_statement : (s : tokens.Statement) (others : Bool) (rest : tokens.Statements) → is_empty s ≡ false → items_in_statements toks others (syntax.more_statements s rest) ≡ guard_of toks others (items_in_statement toks s) ++ (items_in_statement toks s ++ items_in_statements toks true rest)
+  one_more_statement : (s : tokens.Statement) (others : Bool) (rest : tokens.Statements) → is_empty s ≡ false → items_in_statements toks others (syntax.more_statements s rest) ≡ guard_of toks others (items_in_statement toks s) ++ (items_in_statement toks s ++ items_in_statements toks true rest)
   one_more_statement (syntax.empty_statement span) others rest e = cc
   one_more_statement (syntax.local_statement span names values) others rest e = one_written _ others rest
   one_more_statement (syntax.assignment span targets values) others rest e = one_written _ others rest
@@ -50,6 +50,31 @@ module _ (toks : List Tok) where
   one_more_statement (syntax.goto_statement span name) others rest e = one_written _ others rest
   one_more_statement (syntax.break_statement span) others rest e = one_written _ others rest
   one_more_statement (syntax.return_statement span values) others rest e = one_written _ others rest
+
+  empty_items : (s : tokens.Statement) → is_empty s ≡ true → items_in_statement toks s ≡ []
+  empty_items (syntax.empty_statement span) e = refl
+  empty_items _ e = cc
+
+  not_first : (first : Bool) → not (first && false) ≡ true
+  not_first true = refl
+  not_first false = refl
+
+  still_first : (first : Bool) (rest : tokens.Statements) → items_in_statements toks (not first) rest ≡ guard_of toks (not first) [] ++ ([] ++ items_in_statements toks (not (first && true)) rest)
+  still_first true rest = refl
+  still_first false rest = refl
+
+  -- one statement more, as the loop writes it
+  pub one_statement : (s : tokens.Statement) (first : Bool) (rest : tokens.Statements) → items_in_statements toks (not first) (syntax.more_statements s rest) ≡ guard_of toks (not first) (items_in_statement toks s) ++ (items_in_statement toks s ++ items_in_statements toks (not (first && is_empty s)) rest)
+  one_statement s first rest = by (is_empty s) refl
+    where
+      by : (b : Bool) → is_empty s ≡ b → items_in_statements toks (not first) (syntax.more_statements s rest) ≡ guard_of toks (not first) (items_in_statement toks s) ++ (items_in_statement toks s ++ items_in_statements toks (not (first && is_empty s)) rest)
+      by true e =
+          skipped s (not first) rest e ∙ still_first first rest
+          ∙ ap (λ x. guard_of toks (not first) x ++ (x ++ items_in_statements toks (not (first && true)) rest)) (sym (empty_items s e))
+          ∙ ap (λ b. guard_of toks (not first) (items_in_statement toks s) ++ (items_in_statement toks s ++ items_in_statements toks (not (first && b)) rest)) (sym e)
+      by false e =
+          one_more_statement s (not first) rest e
+          ∙ ap (λ b. guard_of toks (not first) (items_in_statement toks s) ++ (items_in_statement toks s ++ items_in_statements toks b rest)) (sym (ap (λ b. not (first && b)) e ∙ not_first first))
 
   -- ---- what a statement starts with
 

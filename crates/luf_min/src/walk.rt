@@ -59,11 +59,9 @@ fn of_stats(cut: &Cut, stats: &[Stat], into: &mut Vec<Item>) -> Result<(), Memor
 {
     let mut first = true;
     for s in stats {
-        if !is_empty(s) {
-            add_guard(first, cut, s, into)?;
-            of_stat(cut, s, into)?;
-            first = false;
-        }
+        add_guard(first, cut, s, into)?;
+        of_stat(cut, s, into)?;
+        first = first && is_empty(s);
     }
     Ok(())
 }
