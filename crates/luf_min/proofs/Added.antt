@@ -13,16 +13,28 @@ pub on_ok : {P Q : Type 0} (r : Done) → (P → Q) → OnOk r P → OnOk r Q
 on_ok (Ok _) f p = f p
 on_ok (Err _) f p = tt
 
--- a part, and what is behind it
-pub then : (old mid new a b : List Item) (r : Done) → mid ≡ old ++ a → OnOk r (new ≡ mid ++ b) → OnOk r (new ≡ old ++ (a ++ b))
-then old mid new a b r first last = on_ok r (λ (h : new ≡ mid ++ b). h ∙ ap (λ x. x ++ b) first ∙ append_assoc old a b) last
-
-pub then_on : (old mid new a b : List Item) → mid ≡ old ++ a → new ≡ mid ++ b → new ≡ old ++ (a ++ b)
-then_on old mid new a b first last = last ∙ ap (λ x. x ++ b) first ∙ append_assoc old a b
-
 -- the whole is that
 pub whole : (old new part all : List Item) (r : Done) → all ≡ part → OnOk r (new ≡ old ++ part) → OnOk r (new ≡ old ++ all)
 whole old new part all r is = on_ok r (λ (h : new ≡ old ++ part). h ∙ ap (λ x. old ++ x) (sym is))
+
+-- where a function answers Ok, a part was added
+pub record Adds (r : Done) (old new part : List Item) : Type 0 where
+  pub added : OnOk r (new ≡ old ++ part)
+
+-- the last part of a function
+pub ends : (old new part : List Item) (r : Done) → OnOk r (new ≡ old ++ part) → Adds r old new part
+ends old new part r last = record { added = last }
+
+-- a part, and what is behind it
+pub then : (old mid new a b : List Item) (r : Done) → mid ≡ old ++ a → Adds r mid new b → Adds r old new (a ++ b)
+then old mid new a b r first last = record { added = on_ok r (λ (h : new ≡ mid ++ b). h ∙ ap (λ x. x ++ b) first ∙ append_assoc old a b) last.added }
+
+-- the whole is these parts
+pub all_of : (old new part all : List Item) (r : Done) → all ≡ part → Adds r old new part → OnOk r (new ≡ old ++ all)
+all_of old new part all r is parts = whole old new part all r is parts.added
+
+pub then_on : (old mid new a b : List Item) → mid ≡ old ++ a → new ≡ mid ++ b → new ≡ old ++ (a ++ b)
+then_on old mid new a b first last = last ∙ ap (λ x. x ++ b) first ∙ append_assoc old a b
 
 pub whole_on : (old new part all : List Item) → all ≡ part → new ≡ old ++ part → new ≡ old ++ all
 whole_on old new part all is h = h ∙ ap (λ x. old ++ x) (sym is)

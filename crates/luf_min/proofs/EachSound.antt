@@ -19,11 +19,11 @@ each_append : {X : Type 0} {Fits : X → Type 0} {xs ys : List X} → Each Fits 
 each_append all_none more = more
 each_append (all_more fits all) more = all_more fits (each_append all more)
 
-sign_is_semicolon : token_sign.Sign → Bool
+abbrev sign_is_semicolon : token_sign.Sign → Bool
 sign_is_semicolon sign.Semicolon = true
 sign_is_semicolon _ = false
 
-pub is_semicolon : Tok → Bool
+abbrev pub is_semicolon : Tok → Bool
 is_semicolon (tok.Sign s) = sign_is_semicolon s
 is_semicolon _ = false
 
@@ -53,7 +53,7 @@ module _ {X : Type 0} (kind : X → Tok) (added : X → Bool) where
   Sound x = added x ≡ false → is_semicolon (kind x) ≡ false
 
   kept : {x : X} {t : Tok} → (kind x ≡ t) × (added x ≡ false) → is_semicolon t ≡ false → Sound x
-  kept keeps no _ = ap is_semicolon keeps.0 ∙ no
+  kept keeps other _ = ap is_semicolon keeps.0 ∙ other
 
   put_in : {x : X} {P : Type 0} → P × (added x ≡ true) → Sound x
   put_in adds own = absurd (false≢true (sym own ∙ adds.1))

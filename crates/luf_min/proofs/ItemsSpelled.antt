@@ -1,5 +1,6 @@
 -- The items of a chunk are spelled as the words of its minified text.
-use Rattle.std.proofs.Common.{◌≡◌, ℕ, zero, suc, ◌+◌, ◌<◌, List, [], ◌∷◌, ◌++◌, map, length, get_or, All, refl, sym, ap, ◌∙◌, subst, arith}
+use Rattle.std.proofs.Common.{◌≡◌, ℕ, zero, suc, ◌+◌, ◌<◌, List, [], ◌∷◌, ◌++◌, map, length, get_or, All, append_assoc, refl, sym, ap, ◌∙◌, subst, arith}
+use Rattle.std.specs.Prelude.{OnOk}
 use Rattle.std.proofs.lemmas.List.Elements.{All-head, All-tail}
 use Rattle.luf_lex.specs.Tokens.{toks_of}
 use Rattle.luf_lex.specs.declared.token.Tok.{Tok}
@@ -18,6 +19,7 @@ use Rattle.luf_min.specs.Text.{IsJoined, hash_text}
 use Rattle.luf_min.specs.declared.item.Item.{Item}
 use Rattle.luf_min.specs.declared.item.Item.TheVariants.{Token, Word, Sign}
 use Rattle.luf_min.specs.inner.Items.{token_at, kind_of, item_of, added_items, never_trails, never_encloses, items_in_block, spelling_of, IsWithin}
+use Rattle.luf_min.proofs.Added.{Done, on_ok}
 use Rattle.luf_min.proofs.ItemsWithin.{items_within}
 use Rattle.luf_min.proofs.PairedWritten.{paired_block}
 
@@ -32,7 +34,7 @@ told_spelling spelled n (t ∷ toks) zero within = let at : n ≡ n + 0 = omega 
 told_spelling spelled n (t ∷ toks) (suc i) within = let at : (n + 1) + i ≡ n + suc i = omega arith in told_spelling spelled (n + 1) toks i (omega (arith, within)) ∙ ap spelled at
 
 module _ (spelled : Spelling) (toks : List Tok) where
-  spelled_item : Item → SpelledToken
+  abbrev spelled_item : Item → SpelledToken
   spelled_item (Token n) = spelled_at (spelled_tokens spelled 0 toks) n
   spelled_item (Word w) = spelled_by fixed_spelling (tok.Word w)
   spelled_item (Sign s) = spelled_by fixed_spelling (tok.Sign s)
@@ -70,7 +72,7 @@ module _ (spelled : Spelling) (toks : List Tok) where
   items_spelled chunk derived =
       all_spelled
       (paired_block (kind_of toks) item_of added_items token_of (λ t. own_word (spelled_by fixed_spelling t)) (λ t. added_word (spelled_by fixed_spelling t) ∷ []) never_trails never_encloses Token (λ i. own_word (spelled_at (spelled_tokens spelled 0 toks) i)) IsWord
-      (λ {x} {word} is. item_opens x ∙ ap (λ (w : SpelledToken). opens w.token) is) (λ t fixed. item_put t fixed) (λ t fixed. more (item_put t fixed) nothing) (λ i. refl) (syntax_of chunk))
+      (λ x word is. item_opens x ∙ ap (λ (w : SpelledToken). opens w.token) is) (λ t fixed. item_put t fixed) (λ t fixed. more (item_put t fixed) nothing) (λ i. refl) (syntax_of chunk))
       (items_within toks chunk derived)
 
 pub minified_so : (source : List ℕ) (pieces : List Piece) (chunk : Chunk) (spelled : Spelling) (items : List Item) (tokens : List ℕ) → IsChunk (toks_of pieces) chunk → items ≡ items_in_block (toks_of pieces) (syntax_of chunk) → IsJoined (map (spelling_of spelled) items) tokens → IsMinifiedSo source pieces chunk spelled (hash_text source pieces ++ tokens)
@@ -79,3 +81,10 @@ minified_so source pieces chunk spelled items tokens derived is joined = record 
   joined = subst (λ words. IsJoined words tokens) (ap (map (spelling_of spelled)) is ∙ items_spelled spelled (toks_of pieces) chunk derived) joined;
   is = refl;
 }
+
+-- what is written of the items, behind the `#` line
+pub text_written : (source : List ℕ) (pieces : List Piece) (chunk : Chunk) (spelled : Spelling) (items : List Item) (old mid new : List ℕ) (r : Done) → IsChunk (toks_of pieces) chunk → items ≡ items_in_block (toks_of pieces) (syntax_of chunk) → mid ≡ old ++ hash_text source pieces
+    → OnOk r ((tokens : List ℕ) × IsJoined (map (spelling_of spelled) items) tokens × (new ≡ mid ++ tokens)) → OnOk r ((text : List ℕ) × IsMinifiedSo source pieces chunk spelled text × (new ≡ old ++ text))
+text_written source pieces chunk spelled items old mid new r derived is hash =
+    on_ok r (λ (w : (tokens : List ℕ) × IsJoined (map (spelling_of spelled) items) tokens × (new ≡ mid ++ tokens)).
+    (hash_text source pieces ++ w.0, minified_so source pieces chunk spelled items w.0 derived is w.1, w.2 ∙ ap (λ t. t ++ w.0) hash ∙ append_assoc old (hash_text source pieces) w.0))

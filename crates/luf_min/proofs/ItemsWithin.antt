@@ -28,19 +28,19 @@ data Mark : Type 0 where
   added : Tok → Mark
 
 -- behind the last token stands a `;`, which no word of the program is
-kind_at : List Tok → Mark → Tok
+abbrev kind_at : List Tok → Mark → Tok
 kind_at toks (own n) = get_or toks n (tok.Sign sign.Semicolon)
 kind_at toks (put t) = t
 kind_at toks (added t) = t
 
-is_added : Mark → Bool
+abbrev is_added : Mark → Bool
 is_added (added t) = true
 is_added _ = false
 
-addition : Tok → List Mark
+abbrev addition : Tok → List Mark
 addition t = added t ∷ []
 
-marked_item : Mark → Item
+abbrev marked_item : Mark → Item
 marked_item (own n) = Token n
 marked_item (put t) = item_of t
 marked_item (added t) = item_of t
@@ -92,4 +92,4 @@ items_within toks chunk derived =
     (sound_block (kind_at toks) is_added
     (tell_block (kind_at toks) is_added put added (λ t. (refl, refl)) (λ t. (refl, refl)) toks own (λ i t there. get_or_from_slice_get toks i t (tok.Sign sign.Semicolon) there) (λ i. refl) never_trails never_encloses derived))
     (paired_block (kind_at toks) put addition (kind_of toks) item_of added_items never_trails never_encloses own Token IsItem
-    (λ {m} {x} is. marked_opens toks m ∙ ap (λ (y : Item). opens (kind_of toks y)) is) (λ t fixed. refl) (λ t fixed. more refl nothing) (λ i. refl) (syntax_of chunk))
+    (λ m x is. marked_opens toks m ∙ ap (λ (y : Item). opens (kind_of toks y)) is) (λ t fixed. refl) (λ t fixed. more refl nothing) (λ i. refl) (syntax_of chunk))

@@ -15,7 +15,7 @@ use Rattle.luf_bare.specs.Bare.{words_at, chosen_expressions, chosen_fields, cho
 use Rattle.luf_bare.specs.Writing.{written_more_names, written_fields_of_path, written_more_expressions, written_more_fields, written_more_arms}
 use Rattle.luf_min.specs.declared.item.Item.{Item}
 use Rattle.luf_min.specs.declared.item.Item.TheVariants.{Token, Word, Sign}
-use Rattle.luf_min.specs.inner.Items.{kind_of, item_of, added_items, never_trails, never_encloses, items_in_names, items_in_parameters, items_in_attribute, items_in_declared, items_in_path, items_in_method, items_in_expression, items_in_expressions, items_in_values, items_in_field, items_in_fields, items_in_arm, items_in_arms, items_in_body, items_to_end, items_in_statement, items_in_do, items_in_range, items_in_for_step}
+use Rattle.luf_min.specs.inner.Items.{kind_of, item_of, added_items, never_trails, never_encloses, items_in_names, items_in_parameters, items_in_attribute, items_in_declared, items_in_path, items_in_method, items_in_expression, items_in_expressions, items_in_values, items_in_field, items_in_fields, items_in_arm, items_in_arms, items_in_body, items_to_end, items_in_statement, items_in_do}
 use Rattle.luf_min.specs.inner.Listed.{before_part, listed, token_item, names_listed, is_none, dots_behind, parameters_listed, attribute_items, declared_item, declared_listed, method_items, path_listed}
 
 module _ (toks : List Tok) where
@@ -102,12 +102,6 @@ module _ (toks : List Tok) where
   for_in_is span names values body =
       (λ i. Word word.For ∷ (names_are names i ++ (Word word.In ∷ (items_in_expressions toks values ++ items_in_do toks body))))
       ∙ ap (λ x. Word word.For ∷ x) (sym (append_assoc (names_listed names) (Word word.In ∷ []) (items_in_expressions toks values ++ items_in_do toks body)))
-
-  pub for_is : (span : tokens.Span) (name : ℕ) (first limit : tokens.Expression) (step : tokens.OptionalExpression) (body : tokens.Block) → items_in_statement toks (syntax.for_statement span name first limit step body) ≡ Word word.For ∷ Token name ∷ Sign sign.Assign ∷ (items_in_range toks first limit step ++ items_in_do toks body)
-  for_is span name first limit step body =
-      ap (λ x. Word word.For ∷ Token name ∷ Sign sign.Assign ∷ x)
-      (ap (λ x. items_in_expression toks first ++ (Sign sign.Comma ∷ x)) (sym (append_assoc (items_in_expression toks limit) (items_in_for_step toks step) (items_in_do toks body)))
-      ∙ sym (append_assoc (items_in_expression toks first) (Sign sign.Comma ∷ (items_in_expression toks limit ++ items_in_for_step toks step)) (items_in_do toks body)))
 
   pub body_is : (span : tokens.Span) (names : List ℕ) (vararg : Bool) (body : tokens.Block) → items_in_body toks (syntax.function_body span names vararg body) ≡ parameters_listed names vararg ++ items_to_end toks body
   body_is span names vararg body =

@@ -14,7 +14,7 @@ use Rattle.luf_bare.specs.Bare.{Worded, words_at, before, chosen_declared, chose
 use Rattle.luf_bare.specs.Writing.{opens, guarded, guarded_if, separated, after_guard, enclosed, written_more_names, written_names, written_parameters, written_attribute, written_declared, written_fields_of_path, written_path, written_method, written_expression, written_for_step, written_more_expressions, written_expressions, written_operation, written_operations, written_suffix, written_suffixes, written_arguments, written_field, written_more_fields, written_fields, written_statement, written_statements, written_arm, written_more_arms, written_arms, written_block, written_else, written_body}
 use Rattle.luf_resolved.proofs.Paired.{Paired, nothing, more, joined}
 
-module _ {X Y : Type 0} (kind : X → Tok) (put : Tok → X) (add : Tok → List X) (other_kind : Y → Tok) (other_put : Tok → Y) (other_add : Tok → List Y) (trails : tokens.Span → Bool) (encloses : tokens.Span → Bool → Bool) (says : ℕ → X) (other_says : ℕ → Y) (R : X → Y → Type 0) (kinds : {x : X} {y : Y} → R x y → opens (kind x) ≡ opens (other_kind y)) (puts : (t : Tok) → IsFixed t → R (put t) (other_put t)) (additions : (t : Tok) → IsFixed t → Paired R (add t) (other_add t)) (fits : (i : ℕ) → R (says i) (other_says i)) where
+module _ {X Y : Type 0} (kind : X → Tok) (put : Tok → X) (add : Tok → List X) (other_kind : Y → Tok) (other_put : Tok → Y) (other_add : Tok → List Y) (trails : tokens.Span → Bool) (encloses : tokens.Span → Bool → Bool) (says : ℕ → X) (other_says : ℕ → Y) (R : X → Y → Type 0) (kinds : (x : X) (y : Y) → R x y → opens (kind x) ≡ opens (other_kind y)) (puts : (t : Tok) → IsFixed t → R (put t) (other_put t)) (additions : (t : Tok) → IsFixed t → Paired R (add t) (other_add t)) (fits : (i : ℕ) → R (says i) (other_says i)) where
   paired_more_names : (names : List ℕ) → Paired R (written_more_names kind put add trails (map says names)) (written_more_names other_kind other_put other_add trails (map other_says names))
   paired_more_names [] = nothing
   paired_more_names (name ∷ names) = more (puts (Sign sign.Comma) tt) (more (fits _) (paired_more_names names))
@@ -56,7 +56,7 @@ module _ {X Y : Type 0} (kind : X → Tok) (put : Tok → X) (add : Tok → List
 
   paired_guarded : {words : List X} {others_words : List Y} → Paired R words others_words → Paired R (guarded kind put add trails words) (guarded other_kind other_put other_add trails others_words)
   paired_guarded nothing = nothing
-  paired_guarded (more {x} {xs} {ys} here there) = subst (λ b. Paired R (guarded_if kind put add trails (opens (kind x)) (x ∷ xs)) (guarded_if other_kind other_put other_add trails b _)) (kinds here) (paired_guarded_if (opens (kind x)) (more here there))
+  paired_guarded (more {x} {y} {xs} {ys} here there) = subst (λ b. Paired R (guarded_if kind put add trails (opens (kind x)) (x ∷ xs)) (guarded_if other_kind other_put other_add trails b (y ∷ ys))) (kinds x y here) (paired_guarded_if (opens (kind x)) (more here there))
 
   paired_after_guard : (others : Bool) {words : List X} {others_words : List Y} → Paired R words others_words → Paired R (after_guard kind put add trails others words) (after_guard other_kind other_put other_add trails others others_words)
   paired_after_guard true all = paired_guarded all

@@ -1,16 +1,37 @@
 -- What is written of statements and arguments, as the functions decide it.
-use Rattle.std.proofs.Common.{◌≡◌, ℕ, Bool, true, false, cond, not, ◌&&◌, Option, Some, None, List, [], ◌∷◌, ◌++◌, refl, sym, ap, ◌∙◌, append_assoc}
+use Rattle.std.proofs.Common.{◌≡◌, ℕ, ◌+◌, ◌<◌, Bool, true, false, cond, not, ◌&&◌, Option, Some, None, List, [], ◌∷◌, ◌++◌, length, get_or, drop, map, if◌then◌else◌, arith, refl, sym, ap, ◌∙◌, append_assoc}
 use Rattle.luf_lex.specs.declared.token.Tok.{Tok}
 use Rattle.luf_lex.specs.declared.token.Sign.TheVariants as sign
+use Rattle.luf_lex.specs.declared.token.Tok.TheVariants as tok
+use Rattle.luf_lex.specs.declared.token.Sign as token_sign
+use Rattle.luf_guard.specs.Guard.{NeedsGuard}
+use Rattle.luf_tree.specs.declared.tree.Expr.{Expr}
+use Rattle.luf_tree.specs.declared.tree.Stat.{Stat}
+use Rattle.luf_tree.specs.SyntaxOf.{expressions_of, statements_of, syntax_of_expr, syntax_of_stat}
 use Rattle.luf_tree.specs.Syntax as syntax
 use Rattle.luf_tree.specs.TokenSyntax as tokens
 use Rattle.luf_bare.specs.Bare.{Worded, words_at, before, chosen_expression, chosen_expressions, chosen_statement, chosen_statements}
 use Rattle.luf_bare.specs.Lone.{is_lone, is_lone_item}
-use Rattle.luf_bare.specs.Writing.{opens, guarded_if, after_guard, enclosed, written_statement, written_statements}
+use Rattle.luf_bare.specs.Writing.{opens, sign_opens, guarded_if, after_guard, enclosed, written_statement, written_statements}
 use Rattle.luf_min.specs.declared.item.Item.{Item}
 use Rattle.luf_min.specs.declared.item.Item.TheVariants.{Token, Sign}
 use Rattle.luf_min.specs.inner.Items.{kind_of, item_of, added_items, never_trails, never_encloses, of_statement, opens_first, guard_of, items_in_expression, items_in_expressions, items_in_operations, items_in_suffixes, items_in_arguments, items_in_statement, items_in_statements}
 use Rattle.luf_min.specs.inner.Starts.{is_empty, opens_statement}
+use Rattle.luf_min.proofs.Added.{then_on, front}
+
+sign_opens_not : (s : token_sign.Sign) → (tok.Sign s ≡ tok.Sign sign.LeftParen → ⊥) → sign_opens s ≡ false
+sign_opens_not sign.LeftParen other = absurd (other refl)
+sign_opens_not _ other = refl
+
+opens_not : (t : Tok) → (t ≡ tok.Sign sign.LeftParen → ⊥) → opens t ≡ false
+opens_not (tok.Sign s) other = sign_opens_not s other
+opens_not _ other = refl
+
+-- two expressions are no lone argument
+pub many_not_lone : (es : List Expr) → 1 < length es → false ≡ is_lone (expressions_of (map syntax_of_expr es))
+many_not_lone [] many = absurd (omega (arith, many))
+many_not_lone (e ∷ []) many = absurd (omega (arith, many))
+many_not_lone (e ∷ f ∷ es) many = refl
 
 module _ (toks : List Tok) where
   -- ---- the guard
@@ -29,27 +50,24 @@ module _ (toks : List Tok) where
   skipped (syntax.empty_statement span) others rest e = refl
   skipped _ others rest e = cc
 
-  one_written : (s : syntax.Statement (Worded tokens.Span Item)) (others : Bool) (rest : tokens.Statements) → written_statements (kind_of toks) item_of added_items never_trails others (before (Some s) (chosen_statements (words_at Token) never_encloses rest)) ≡ guard_of toks others (written_statement (kind_of toks) item_of added_items never_trails s) ++ (written_statement (kind_of toks) item_of added_items never_trails s ++ items_in_statements toks true rest)
-  one_written s others rest = guard_split others (written_statement (kind_of toks) item_of added_items never_trails s) (items_in_statements toks true rest)
-
   -- any other is written behind its guard
   one_more_statement : (s : tokens.Statement) (others : Bool) (rest : tokens.Statements) → is_empty s ≡ false → items_in_statements toks others (syntax.more_statements s rest) ≡ guard_of toks others (items_in_statement toks s) ++ (items_in_statement toks s ++ items_in_statements toks true rest)
   one_more_statement (syntax.empty_statement span) others rest e = cc
-  one_more_statement (syntax.local_statement span names values) others rest e = one_written _ others rest
-  one_more_statement (syntax.assignment span targets values) others rest e = one_written _ others rest
-  one_more_statement (syntax.call_statement span call) others rest e = one_written _ others rest
-  one_more_statement (syntax.do_statement span body) others rest e = one_written _ others rest
-  one_more_statement (syntax.while_statement span test body) others rest e = one_written _ others rest
-  one_more_statement (syntax.repeat_statement span body test) others rest e = one_written _ others rest
-  one_more_statement (syntax.if_statement span arms last) others rest e = one_written _ others rest
-  one_more_statement (syntax.for_statement span name first limit step body) others rest e = one_written _ others rest
-  one_more_statement (syntax.for_in_statement span names values body) others rest e = one_written _ others rest
-  one_more_statement (syntax.function_statement span name fields method body) others rest e = one_written _ others rest
-  one_more_statement (syntax.local_function_statement span name body) others rest e = one_written _ others rest
-  one_more_statement (syntax.label span name) others rest e = one_written _ others rest
-  one_more_statement (syntax.goto_statement span name) others rest e = one_written _ others rest
-  one_more_statement (syntax.break_statement span) others rest e = one_written _ others rest
-  one_more_statement (syntax.return_statement span values) others rest e = one_written _ others rest
+  one_more_statement (syntax.local_statement span names values) others rest e = guard_split others (items_in_statement toks (syntax.local_statement span names values)) (items_in_statements toks true rest)
+  one_more_statement (syntax.assignment span targets values) others rest e = guard_split others (items_in_statement toks (syntax.assignment span targets values)) (items_in_statements toks true rest)
+  one_more_statement (syntax.call_statement span call) others rest e = guard_split others (items_in_statement toks (syntax.call_statement span call)) (items_in_statements toks true rest)
+  one_more_statement (syntax.do_statement span body) others rest e = guard_split others (items_in_statement toks (syntax.do_statement span body)) (items_in_statements toks true rest)
+  one_more_statement (syntax.while_statement span test body) others rest e = guard_split others (items_in_statement toks (syntax.while_statement span test body)) (items_in_statements toks true rest)
+  one_more_statement (syntax.repeat_statement span body test) others rest e = guard_split others (items_in_statement toks (syntax.repeat_statement span body test)) (items_in_statements toks true rest)
+  one_more_statement (syntax.if_statement span arms last) others rest e = guard_split others (items_in_statement toks (syntax.if_statement span arms last)) (items_in_statements toks true rest)
+  one_more_statement (syntax.for_statement span name first limit step body) others rest e = guard_split others (items_in_statement toks (syntax.for_statement span name first limit step body)) (items_in_statements toks true rest)
+  one_more_statement (syntax.for_in_statement span names values body) others rest e = guard_split others (items_in_statement toks (syntax.for_in_statement span names values body)) (items_in_statements toks true rest)
+  one_more_statement (syntax.function_statement span name fields method body) others rest e = guard_split others (items_in_statement toks (syntax.function_statement span name fields method body)) (items_in_statements toks true rest)
+  one_more_statement (syntax.local_function_statement span name body) others rest e = guard_split others (items_in_statement toks (syntax.local_function_statement span name body)) (items_in_statements toks true rest)
+  one_more_statement (syntax.label span name) others rest e = guard_split others (items_in_statement toks (syntax.label span name)) (items_in_statements toks true rest)
+  one_more_statement (syntax.goto_statement span name) others rest e = guard_split others (items_in_statement toks (syntax.goto_statement span name)) (items_in_statements toks true rest)
+  one_more_statement (syntax.break_statement span) others rest e = guard_split others (items_in_statement toks (syntax.break_statement span)) (items_in_statements toks true rest)
+  one_more_statement (syntax.return_statement span values) others rest e = guard_split others (items_in_statement toks (syntax.return_statement span values)) (items_in_statements toks true rest)
 
   empty_items : (s : tokens.Statement) → is_empty s ≡ true → items_in_statement toks s ≡ []
   empty_items (syntax.empty_statement span) e = refl
@@ -75,6 +93,22 @@ module _ (toks : List Tok) where
       by false e =
           one_more_statement s (not first) rest e
           ∙ ap (λ b. guard_of toks (not first) (items_in_statement toks s) ++ (items_in_statement toks s ++ items_in_statements toks b rest)) (sym (ap (λ b. not (first && b)) e ∙ not_first first))
+
+  -- one statement more in the list that the loop goes over
+  pub one_guarded : (stats : List Stat) (i : ℕ) (s : Stat) (first later : Bool) (old mid new all : List Item) → i < length stats → s ≡ get_or stats i s → old ++ items_in_statements toks (not first) (statements_of (map syntax_of_stat (drop i stats))) ≡ all
+      → mid ≡ old ++ guard_of toks (not first) (items_in_statement toks (syntax_of_stat s)) → new ≡ mid ++ items_in_statement toks (syntax_of_stat s) → later ≡ (first && is_empty (syntax_of_stat s)) → new ++ items_in_statements toks (not later) (statements_of (map syntax_of_stat (drop (i + 1) stats))) ≡ all
+  one_guarded stats i s first later old mid new all inside is before guarded added later_is =
+      ap (λ b. new ++ items_in_statements toks (not b) rest) later_is
+      ∙ ap (λ n. n ++ items_in_statements toks (not (first && is_empty (syntax_of_stat s))) rest) (then_on old mid new (guard_of toks (not first) own) own guarded added)
+      ∙ append_assoc old (guard_of toks (not first) own ++ own) (items_in_statements toks (not (first && is_empty (syntax_of_stat s))) rest)
+      ∙ ap (λ ys. old ++ ys) (append_assoc (guard_of toks (not first) own) own (items_in_statements toks (not (first && is_empty (syntax_of_stat s))) rest) ∙ sym (one_statement (syntax_of_stat s) first rest))
+      ∙ ap (λ ss. old ++ items_in_statements toks (not first) (statements_of (map syntax_of_stat ss))) (sym (front stats i s inside is))
+      ∙ before
+    where
+      own : List Item
+      own = items_in_statement toks (syntax_of_stat s)
+      rest : tokens.Statements
+      rest = statements_of (map syntax_of_stat (drop (i + 1) stats))
 
   -- ---- what a statement starts with
 
@@ -136,6 +170,20 @@ module _ (toks : List Tok) where
   statement_begun (syntax.goto_statement span name) = refl
   statement_begun (syntax.break_statement span) = refl
   statement_begun (syntax.return_statement span values) = refl
+
+  -- of targets the first one
+  pub targets_start : (es : List Expr) (e : Expr) → 0 < length es → e ≡ get_or es 0 e → opens_first toks (items_in_expression toks (syntax_of_expr e)) ≡ opens_first toks (items_in_expressions toks (expressions_of (map syntax_of_expr es)))
+  targets_start [] e some is = absurd (omega (arith, some))
+  targets_start (f ∷ es) e some is = ap (λ x. opens_first toks (items_in_expression toks (syntax_of_expr x))) is ∙ sym (exprs_begun (syntax_of_expr f) (expressions_of (map syntax_of_expr es)))
+
+  -- a `;` is due
+  pub guard_there : (first : Bool) (starts : Tok) (s : tokens.Statement) → NeedsGuard first starts → opens starts ≡ opens_statement toks s → guard_of toks (not first) (items_in_statement toks s) ≡ Sign sign.Semicolon ∷ []
+  guard_there first starts s needs is = λ i. if not (needs.0 i) && (statement_begun s ∙ sym is ∙ ap opens needs.1) i then Sign sign.Semicolon ∷ [] else []
+
+  -- or not
+  pub guard_none : (first : Bool) (starts : Tok) (s : tokens.Statement) → (NeedsGuard first starts → ⊥) → opens starts ≡ opens_statement toks s → guard_of toks (not first) (items_in_statement toks s) ≡ []
+  guard_none true starts s free is = refl
+  guard_none false starts s free is = λ i. if (statement_begun s ∙ sym is ∙ opens_not starts (λ paren. free (refl, paren))) i then Sign sign.Semicolon ∷ [] else []
 
   -- ---- arguments
 

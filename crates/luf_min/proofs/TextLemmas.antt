@@ -1,13 +1,14 @@
 -- The text of words, word by word.
-use Rattle.std.proofs.Common.{◌≡◌, ℕ, zero, suc, ◌+◌, ◌<◌, ◌≤◌, Option, List, [], ◌∷◌, ◌++◌, Some, None, codes, length, length-append, take, drop, append-nil, append_assoc, IfSome, refl, sym, ap, ◌∙◌, subst, arith}
-use Rattle.std.specs.Prelude.{slice_get}
-use Rattle.std.proofs.lemmas.List.{take-take}
+use Rattle.std.proofs.Common.{◌≡◌, ℕ, zero, suc, ◌+◌, ◌<◌, ◌≤◌, Bool, true, false, ◌↔◌, Option, List, [], ◌∷◌, ◌++◌, Some, None, codes, length, length-append, take, drop, map, get_or, append-nil, append_assoc, IfSome, refl, sym, ap, ◌∙◌, subst, arith}
+use Rattle.std.specs.Prelude.{slice_get, IsTrue}
+use Rattle.std.proofs.lemmas.List.{take_more, take-take, length-map}
+use Rattle.std.proofs.Math.ListN.{get_or-map}
 use Rattle.std.proofs.Math.Seq.{take-append_seam}
 use Rattle.std.proofs.lemmas.Option.{slice_get-get_or}
 use Rattle.luf_lex.specs.Tokens.{toks_of, spellings_of}
 use Rattle.luf_lex.specs.declared.token.Piece.{Piece}
-use Rattle.luf_guard.specs.Space.{IsTokenSpelling}
-use Rattle.luf_min.specs.inner.Next.{IsNext, first, next_apart, next_spaced, IsWritten, last_word}
+use Rattle.luf_guard.specs.Space.{IsTokenSpelling, StandApart, NeedSpace}
+use Rattle.luf_min.specs.inner.Next.{IsNext, first, next_apart, next_spaced, IsWritten, last_word, spaced as with_space}
 use Rattle.luf_min.proofs.TextAgain.{length_spellings}
 use Rattle.luf_min.specs.Text.{IsJoined, nothing, alone, apart, spaced}
 
@@ -40,22 +41,33 @@ pub record Written (words : List (List ℕ)) (n : ℕ) (old now : List ℕ) (las
   pub text : List ℕ
   pub joined : IsJoined (take n words) text
   pub written : now ≡ old ++ text
-  pub last : last_word last now ≡ last_of (take n words)
+  pub at_hand : last_word last now ≡ last_of (take n words)
   pub spelled : IfSome last (λ from. (from ≤ length now) × IsTokenSpelling (drop from now))
 
 pub written_none : (words : List (List ℕ)) (old : List ℕ) → Written words 0 old old None
-written_none words old = record { text = []; joined = nothing; written = sym (append-nil old); last = refl; spelled = tt }
+written_none words old = record { text = []; joined = nothing; written = sym (append-nil old); at_hand = refl; spelled = tt }
 
 -- with one more
-pub written_more : (words : List (List ℕ)) (n : ℕ) (old mid new word : List ℕ) (last : Option ℕ) (from : ℕ) → Written words n old mid last → take (n + 1) words ≡ take n words ++ word ∷ [] → IsWritten (last_word last mid) word mid new from → IsTokenSpelling word
+pub written_more : (words : List (List ℕ)) (n : ℕ) (old mid new word : List ℕ) (last : Option ℕ) (from : ℕ) → Written words n old mid last → take (n + 1) words ≡ take n words ++ word ∷ [] → IsWritten (last_word last mid) word mid new from
     → Written words (n + 1) old new (Some from)
-written_more words n old mid new word last from w one added is_token = record {
+written_more words n old mid new word last from w one added = record {
   text = w.text ++ added.more;
-  joined = subst (λ ts. IsJoined ts (w.text ++ added.more)) (sym one) (joined_push word added.more w.joined (subst (λ o. IsNext o word added.more) w.last added.next));
+  joined = subst (λ ts. IsJoined ts (w.text ++ added.more)) (sym one) (joined_push word added.more w.joined (subst (λ o. IsNext o word added.more) w.at_hand added.next));
   written = added.written ∙ ap (λ t. t ++ added.more) w.written ∙ append_assoc old w.text added.more;
-  last = ap Some added.last ∙ sym (ap last_of one ∙ last_push (take n words) word);
-  spelled = (added.inside, subst IsTokenSpelling (sym added.last) is_token);
+  at_hand = ap Some added.last ∙ sym (ap last_of one ∙ last_push (take n words) word);
+  spelled = (added.inside, subst IsTokenSpelling (sym added.last) added.token);
 }
+
+-- the words up to one, with it
+pub words_more : {X : Type 0} (says : X → List ℕ) (items : List X) (n : ℕ) (x : X) → n < length items → x ≡ get_or items n x → take (n + 1) (map says items) ≡ take n (map says items) ++ says x ∷ []
+words_more says items n x inside is =
+    take_more (map says items) n (says x) (omega (arith, inside, length-map items says))
+    ∙ ap (λ w. take n (map says items) ++ w ∷ []) (get_or-map says items n x ∙ ap says (sym is))
+
+-- a word behind a space or not is what comes next
+pub spaced_next : (text : List ℕ) (from : ℕ) (a b : List ℕ) (result : Bool) → a ≡ drop from text → IsTrue result ↔ NeedSpace a b → (result ≡ false → StandApart a b) → IsNext (Some (drop from text)) b (with_space result b)
+spaced_next text from a b true same exact stands = subst (λ x. IsNext (Some x) b (codes " " ++ b)) same (next_spaced (exact.0 refl))
+spaced_next text from a b false same exact stands = subst (λ x. IsNext (Some x) b b) same (next_apart (stands refl))
 
 -- what begins with a longer front begins with a shorter one
 pub front_kept : (old more mid new : List ℕ) → mid ≡ old ++ more → take (length mid) new ≡ mid → take (length old) new ≡ old

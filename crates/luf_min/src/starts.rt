@@ -1,11 +1,9 @@
 // What is looked at before a part is written: the token that a statement starts with, whether an argument is lone.
-ghost use Rattle.std.specs.Prelude.{◌≡◌, not, OnOk, ◌++◌};
+ghost use Rattle.std.specs.Prelude.{◌≡◌, ◌&&◌, ◌++◌, not, map, OnOk};
 ghost use Rattle.luf_lex.specs.Tokens.{toks_of};
 ghost use Rattle.luf_bare.specs.Writing.{opens};
 ghost use Rattle.luf_bare.specs.Lone as lone;
 ghost use Rattle.luf_tree.specs.SyntaxOf.{syntax_of_expr, syntax_of_stat, expressions_of};
-ghost use Rattle.std.specs.Prelude.{map};
-ghost use Rattle.luf_scope.specs.Occurrences.{is_void};
 ghost use Rattle.luf_min.specs.inner.Items.{token_at, opens_first, items_in_expression, items_in_statement, guard_of};
 ghost use Rattle.luf_min.specs.inner.Starts as starts;
 
@@ -15,8 +13,14 @@ use luf_lex::{Cut, Sign, Tok, Word};
 use luf_memory::Memory;
 use luf_tree::{Expr, ExprKind, Stat, StatKind};
 
-/// Whether this is no statement of the program: a `;` by itself.
-pub(crate) fn is_empty(s: &Stat) -> bool
+/// Whether no statement was written, if none was before this one: one that is a `;` by itself is not written.
+pub(crate) fn is_still_first(first: bool, s: &Stat) -> bool
+    ensures { result ≡ (first && starts.is_empty (syntax_of_stat s.now)) }
+{
+    first && is_empty(s)
+}
+
+fn is_empty(s: &Stat) -> bool
     ensures { result ≡ starts.is_empty (syntax_of_stat s.now) }
 {
     matches!(&s.what, StatKind::Empty)
@@ -97,8 +101,9 @@ pub(crate) fn is_lone(exprs: &[Expr]) -> bool
     ensures { result ≡ lone.is_lone (expressions_of (map syntax_of_expr exprs.now)) }
 {
     match exprs {
+        [] => false,
         [e] => is_lone_item(e),
-        _ => false,
+        [_, _, ..] => false,
     }
 }
 

@@ -1,22 +1,20 @@
 // The items of a chunk, read off its tree. Each function adds what is written of its part.
 ghost use Rattle.std.specs.Prelude.{◌≡◌, ◌++◌, map, IfOk, OnOk, false};
-ghost use Rattle.std.specs.Option.{option_map};
 ghost use Rattle.luf_lex.specs.Tokens.{toks_of};
-ghost use Rattle.luf_tree.specs.SyntaxOf.{syntax_of, syntax_of_expr, syntax_of_field, syntax_of_suffix, syntax_of_step, syntax_of_stat, syntax_of_arm, syntax_of_args, syntax_of_block, syntax_of_body, expressions_of, operations_of, suffixes_of, fields_of, statements_of, arms_of, optional_expression_of, optional_block_of};
-ghost use Rattle.luf_min.specs.inner.Items.{items_in_expression, items_in_expressions, items_in_values, items_in_range, items_in_operation, items_in_operations, items_in_suffix, items_in_suffixes, items_in_arguments, items_in_field, items_in_fields, items_in_statement, items_in_statements, items_in_arm, items_in_arms, items_in_block, items_to_end, items_in_do, items_in_if, items_in_body};
+ghost use Rattle.luf_tree.specs.SyntaxOf.{syntax_of, syntax_of_expr, syntax_of_field, syntax_of_suffix, syntax_of_step, syntax_of_stat, syntax_of_arm, syntax_of_args, syntax_of_block, syntax_of_body, expressions_of, operations_of, suffixes_of, fields_of, statements_of, arms_of};
+ghost use Rattle.luf_min.specs.inner.Items.{items_in_expression, items_in_expressions, items_in_values, items_in_operation, items_in_operations, items_in_suffix, items_in_suffixes, items_in_arguments, items_in_field, items_in_fields, items_in_statement, items_in_statements, items_in_arm, items_in_arms, items_in_block, items_to_end, items_in_do, items_in_body};
 
 use crate::item::{Item, add_sign, add_token, add_word, separate};
 use crate::lists::{
     add_for, add_for_in, add_function, add_goto, add_label, add_local, add_local_function,
     add_parameters,
 };
-use crate::starts::{add_guard, is_empty, is_lone};
+use crate::starts::{add_guard, is_lone, is_still_first};
 use luf_lex::{Cut, Sign, Word};
 use luf_memory::Memory;
 use luf_tree::{
     Args, Arm, Block, Chunk, Expr, ExprKind, Field, FuncBody, Stat, StatKind, Step, Suffix,
 };
-use sqlite_items::Boxed;
 use std::alloc::Global;
 
 /// The items of a chunk.
@@ -61,7 +59,7 @@ fn of_stats(cut: &Cut, stats: &[Stat], into: &mut Vec<Item>) -> Result<(), Memor
     for s in stats {
         add_guard(first, cut, s, into)?;
         of_stat(cut, s, into)?;
-        first = first && is_empty(s);
+        first = is_still_first(first, s);
     }
     Ok(())
 }
@@ -94,7 +92,17 @@ fn of_stat(cut: &Cut, s: &Stat, into: &mut Vec<Item>) -> Result<(), Memory>
             add_word(Word::Until, into)?;
             of_expr(cut, test.get(), into)
         }
-        StatKind::If { arms, last } => of_if(cut, arms.as_slice(), last, into),
+        StatKind::If { arms, last } => {
+            add_word(Word::If, into)?;
+            of_arms(cut, arms.as_slice(), into)?;
+            match last {
+                Some(body) => {
+                    add_word(Word::Else, into)?;
+                    of_block_to_end(cut, body.get(), into)
+                }
+                None => add_word(Word::End, into),
+            }
+        }
         StatKind::For {
             name,
             first,
@@ -103,8 +111,17 @@ fn of_stat(cut: &Cut, s: &Stat, into: &mut Vec<Item>) -> Result<(), Memory>
             body,
         } => {
             add_for(*name, into)?;
-            of_range(cut, first.get(), limit.get(), step, into)?;
-            of_do(cut, body.get(), into)
+            of_expr(cut, first.get(), into)?;
+            add_sign(Sign::Comma, into)?;
+            of_expr(cut, limit.get(), into)?;
+            match step {
+                Some(step) => {
+                    add_sign(Sign::Comma, into)?;
+                    of_expr(cut, step.get(), into)?;
+                    of_do(cut, body.get(), into)
+                }
+                None => of_do(cut, body.get(), into),
+            }
         }
         StatKind::ForIn {
             names,
@@ -138,53 +155,12 @@ fn of_stat(cut: &Cut, s: &Stat, into: &mut Vec<Item>) -> Result<(), Memory>
 fn of_values(cut: &Cut, values: &[Expr], into: &mut Vec<Item>) -> Result<(), Memory>
     ensures { OnOk result (into.new.items ≡ into.old.items ++ items_in_values (toks_of cut.now) (expressions_of (map syntax_of_expr values.now))) }
 {
-    if values.is_empty() {
-        return Ok(());
-    }
-    add_sign(Sign::Assign, into)?;
-    of_exprs(cut, values, into)
-}
-
-// The numbers of a `for`, with commas between them.
-#[cycle(walk)]
-fn of_range(
-    cut: &Cut,
-    first: &Expr,
-    limit: &Expr,
-    step: &Option<Boxed<Expr>>,
-    into: &mut Vec<Item>,
-) -> Result<(), Memory>
-    ensures { OnOk result (into.new.items ≡ into.old.items ++ items_in_range (toks_of cut.now) (syntax_of_expr first.now) (syntax_of_expr limit.now) (optional_expression_of (option_map syntax_of_expr step.now))) }
-{
-    of_expr(cut, first, into)?;
-    add_sign(Sign::Comma, into)?;
-    of_expr(cut, limit, into)?;
-    match step {
-        Some(step) => {
-            add_sign(Sign::Comma, into)?;
-            of_expr(cut, step.get(), into)
+    match values {
+        [] => Ok(()),
+        [_, ..] => {
+            add_sign(Sign::Assign, into)?;
+            of_exprs(cut, values, into)
         }
-        None => Ok(()),
-    }
-}
-
-#[cycle(walk)]
-fn of_if(
-    cut: &Cut,
-    arms: &[Arm],
-    last: &Option<Boxed<Block>>,
-    into: &mut Vec<Item>,
-) -> Result<(), Memory>
-    ensures { OnOk result (into.new.items ≡ into.old.items ++ items_in_if (toks_of cut.now) (arms_of (map syntax_of_arm arms.now)) (optional_block_of (option_map syntax_of_block last.now))) }
-{
-    add_word(Word::If, into)?;
-    of_arms(cut, arms, into)?;
-    match last {
-        Some(body) => {
-            add_word(Word::Else, into)?;
-            of_block_to_end(cut, body.get(), into)
-        }
-        None => add_word(Word::End, into),
     }
 }
 

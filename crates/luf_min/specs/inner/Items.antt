@@ -54,7 +54,7 @@ never_trails _ = false
 abbrev pub never_encloses : tokens.Span → Bool → Bool
 never_encloses _ _ = false
 
-abbrev pub of_statement : {X : Type 0} → (syntax.Statement X → List Item) → Option (syntax.Statement X) → List Item
+abbrev pub of_statement : {M : syntax.Shape} → (syntax.Statement M → List Item) → Option (syntax.Statement M) → List Item
 of_statement items None = []
 of_statement items (Some s) = items s
 
@@ -149,14 +149,6 @@ module _ (toks : List Tok) where
 
   abbrev pub items_in_else : tokens.OptionalBlock → List Item
   items_in_else b = written_else (kind_of toks) item_of added_items never_trails (chosen_optional_block (words_at item.Token) never_encloses b)
-
-  -- of an `if`
-  abbrev pub items_in_if : tokens.Arms → tokens.OptionalBlock → List Item
-  items_in_if arms last = item.Word word.If ∷ (items_in_arms arms ++ (items_in_else last ++ (item.Word word.End ∷ [])))
-
-  -- of the numbers of a `for`
-  abbrev pub items_in_range : tokens.Expression → tokens.Expression → tokens.OptionalExpression → List Item
-  items_in_range first limit step = items_in_expression first ++ (item.Sign sign.Comma ∷ (items_in_expression limit ++ items_in_for_step step))
 
   abbrev pub items_in_body : tokens.FunctionBody → List Item
   items_in_body f = written_body (kind_of toks) item_of added_items never_trails (chosen_function_body (words_at item.Token) never_encloses f)

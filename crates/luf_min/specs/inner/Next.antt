@@ -1,6 +1,6 @@
 -- What one more word adds to a text: what the loop that writes the words goes by, and `IsJoined` is what it comes to.
 use Rattle.std.specs.Prelude.{◌≡◌, ◌≤◌, ℕ, Bool, true, false, Option, Some, None, List, ◌++◌, codes, length, drop}
-use Rattle.luf_guard.specs.Space.{StandApart, NeedSpace}
+use Rattle.luf_guard.specs.Space.{StandApart, NeedSpace, IsTokenSpelling}
 
 -- what one more spelling adds behind the one before, if there is one
 pub data IsNext : Option (List ℕ) → List ℕ → List ℕ → Type 0 where
@@ -25,3 +25,4 @@ pub record IsWritten (before : Option (List ℕ)) (word old new : List ℕ) (fro
   pub written : new ≡ old ++ more
   pub inside : from ≤ length new
   pub last : drop from new ≡ word
+  pub token : IsTokenSpelling word
