@@ -1,5 +1,5 @@
 -- The items of a chunk are words of its own tokens: no number of a token reaches beyond them.
-use Rattle.std.proofs.Common.{◌≡◌, ℕ, ◌<◌, ◌≤◌, ◌⊎◌, Bool, true, false, Option, Some, None, List, [], ◌∷◌, length, get_or, slice_get, All, refl, sym, ap, ◌∙◌, subst, arith, ⊎_elim}
+use Rattle.std.proofs.Common.{◌≡◌, ℕ, ◌<◌, ◌≤◌, ◌⊎◌, Bool, true, false, List, [], ◌∷◌, length, get_or, All, refl, sym, ap, ◌∙◌, subst, ⊎_elim}
 use Rattle.std.proofs.lemmas.Bool.{false≢true, cases_lt}
 use Rattle.std.proofs.lemmas.List.{get_or_past, get_or_default}
 use Rattle.std.proofs.lemmas.List.Elements.{All-nil, All-cons}
@@ -10,13 +10,11 @@ use Rattle.luf_lex.specs.declared.token.Sign.TheVariants as sign
 use Rattle.luf_tree.specs.declared.tree.Chunk.{Chunk}
 use Rattle.luf_tree.specs.Grammar.{IsChunk}
 use Rattle.luf_tree.specs.SyntaxOf.{syntax_of}
-use Rattle.luf_bare.specs.Bare.{words_at, chosen_block}
-use Rattle.luf_bare.specs.Significant.{IsFixed}
-use Rattle.luf_bare.specs.Writing.{opens, written_block}
+use Rattle.luf_bare.specs.Writing.{opens}
 use Rattle.luf_bare.proofs.Written.{tell_block}
 use Rattle.luf_resolved.proofs.Paired.{Paired, nothing, more}
 use Rattle.luf_min.specs.declared.item.Item.{Item}
-use Rattle.luf_min.specs.declared.item.Item.TheVariants.{Token, Word, Sign}
+use Rattle.luf_min.specs.declared.item.Item.TheVariants.{Token}
 use Rattle.luf_min.specs.inner.Items.{kind_of, item_of, added_items, never_trails, never_encloses, items_in_block, IsWithin}
 use Rattle.luf_min.proofs.EachSound.{Each, all_none, all_more, is_semicolon, Sound, sound_block}
 use Rattle.luf_min.proofs.PairedWritten.{paired_block}

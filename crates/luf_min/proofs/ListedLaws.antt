@@ -1,6 +1,5 @@
 -- What is written of lists is what a loop writes, with something before each part but the first.
-use Rattle.std.proofs.Common.{◌≡◌, ℕ, Bool, true, false, Option, Some, None, List, [], ◌∷◌, ◌++◌, map, refl, sym, ap, ◌∙◌, append_assoc, append-nil}
-use Rattle.std.specs.Option.{option_map}
+use Rattle.std.proofs.Common.{◌≡◌, ℕ, ◌<◌, Bool, true, false, Option, Some, None, List, [], ◌∷◌, ◌++◌, length, map, arith, refl, sym, ap, ◌∙◌, append_assoc, append-nil}
 use Rattle.luf_lex.specs.declared.token.Tok.{Tok}
 use Rattle.luf_lex.specs.declared.token.Sign.TheVariants as sign
 use Rattle.luf_lex.specs.declared.token.Word.TheVariants as word
@@ -13,10 +12,9 @@ use Rattle.luf_tree.specs.TokenSyntax as tokens
 use Rattle.luf_tree.specs.SyntaxOf.{declared_of, first_of_path, rest_of_path, expressions_of, fields_of, arms_of, syntax_of_expr, syntax_of_field, syntax_of_arm}
 use Rattle.luf_bare.specs.Bare.{words_at, chosen_expressions, chosen_fields, chosen_arms}
 use Rattle.luf_bare.specs.Writing.{written_more_names, written_fields_of_path, written_more_expressions, written_more_fields, written_more_arms}
-use Rattle.luf_min.specs.declared.item.Item.{Item}
 use Rattle.luf_min.specs.declared.item.Item.TheVariants.{Token, Word, Sign}
 use Rattle.luf_min.specs.inner.Items.{kind_of, item_of, added_items, never_trails, never_encloses, items_in_names, items_in_parameters, items_in_attribute, items_in_declared, items_in_path, items_in_method, items_in_expression, items_in_expressions, items_in_values, items_in_field, items_in_fields, items_in_arm, items_in_arms, items_in_body, items_to_end, items_in_statement, items_in_do}
-use Rattle.luf_min.specs.inner.Listed.{before_part, listed, token_item, names_listed, is_none, dots_behind, parameters_listed, attribute_items, declared_item, declared_listed, method_items, path_listed}
+use Rattle.luf_min.specs.inner.Listed.{listed, token_item, names_listed, parameters_listed, attribute_items, declared_item, declared_listed, method_items, path_listed}
 
 module _ (toks : List Tok) where
   -- ---- names
@@ -89,6 +87,10 @@ module _ (toks : List Tok) where
   values_are : (span : tokens.Span) (names : List tokens.DeclaredName) (values : tokens.Expressions) → items_in_statement toks (syntax.local_statement span names values) ≡ Word word.Local ∷ (items_in_declared toks names ++ items_in_values toks values)
   values_are span names syntax.no_expressions = ap (λ x. Word word.Local ∷ x) (sym (append-nil (items_in_declared toks names)))
   values_are span names (syntax.more_expressions e es) = refl
+
+  pub values_some : (es : List Expr) → 0 < length es → items_in_values toks (expressions_of (map syntax_of_expr es)) ≡ Sign sign.Assign ∷ items_in_expressions toks (expressions_of (map syntax_of_expr es))
+  values_some [] some = absurd (omega (arith, some))
+  values_some (e ∷ es) some = refl
 
   pub local_is : (span : tokens.Span) (names : List Declared) (values : tokens.Expressions) → items_in_statement toks (syntax.local_statement span (map declared_of names) values) ≡ Word word.Local ∷ (declared_listed names ++ items_in_values toks values)
   local_is span names values = values_are span (map declared_of names) values ∙ (λ i. Word word.Local ∷ (declared_are names i ++ items_in_values toks values))

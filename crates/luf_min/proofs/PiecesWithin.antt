@@ -1,5 +1,5 @@
 -- The pieces of a cut lie in the source.
-use Rattle.std.proofs.Common.{◌≡◌, ℕ, zero, suc, ◌+◌, ◌<◌, ◌≤◌, Bool, true, false, cond, eqb, List, [], ◌∷◌, ◌++◌, length, take, get_or, sym, ap, ◌∙◌, subst, arith}
+use Rattle.std.proofs.Common.{◌≡◌, ℕ, zero, suc, ◌<◌, ◌≤◌, Bool, true, false, cond, eqb, List, [], ◌∷◌, ◌++◌, length, take, get_or, sym, ap, ◌∙◌, subst, arith}
 use Rattle.std.proofs.lemmas.List.{length-take, get_or-take}
 use Rattle.luf_lex.specs.Cut.{Cuts, IsCut, mark_length, head_of, head_end}
 use Rattle.luf_lex.specs.declared.token.Kind.TheVariants.{HashLine, Mark}
@@ -11,6 +11,7 @@ marked none m = cond none [] (record { kind = Mark; span = record { from = 0; to
 
 abbrev pub hashed : Bool → ℕ → ℕ → List Piece
 hashed none m n = cond none [] (record { kind = HashLine; span = record { from = m; to = n } } ∷ [])
+
 -- each piece of a cut lies in the source
 order : (source : List ℕ) (at : ℕ) (pieces : List Piece) (to : ℕ) → Cuts source at pieces to → at ≤ to
 order source at [] to cut = omega (arith, cut)

@@ -1,5 +1,5 @@
 -- What is written of statements and arguments, as the functions decide it.
-use Rattle.std.proofs.Common.{◌≡◌, ℕ, ◌+◌, ◌<◌, Bool, true, false, cond, not, ◌&&◌, Option, Some, None, List, [], ◌∷◌, ◌++◌, length, get_or, drop, map, if◌then◌else◌, arith, refl, sym, ap, ◌∙◌, append_assoc}
+use Rattle.std.proofs.Common.{◌≡◌, ℕ, ◌+◌, ◌<◌, Bool, true, false, cond, not, ◌&&◌, List, [], ◌∷◌, ◌++◌, length, get_or, drop, map, if◌then◌else◌, arith, refl, sym, ap, ◌∙◌, append_assoc}
 use Rattle.luf_lex.specs.declared.token.Tok.{Tok}
 use Rattle.luf_lex.specs.declared.token.Sign.TheVariants as sign
 use Rattle.luf_lex.specs.declared.token.Tok.TheVariants as tok
@@ -10,12 +10,12 @@ use Rattle.luf_tree.specs.declared.tree.Stat.{Stat}
 use Rattle.luf_tree.specs.SyntaxOf.{expressions_of, statements_of, syntax_of_expr, syntax_of_stat}
 use Rattle.luf_tree.specs.Syntax as syntax
 use Rattle.luf_tree.specs.TokenSyntax as tokens
-use Rattle.luf_bare.specs.Bare.{Worded, words_at, before, chosen_expression, chosen_expressions, chosen_statement, chosen_statements}
+use Rattle.luf_bare.specs.Bare.{words_at, before, chosen_expression, chosen_expressions}
 use Rattle.luf_bare.specs.Lone.{is_lone, is_lone_item}
-use Rattle.luf_bare.specs.Writing.{opens, sign_opens, guarded_if, after_guard, enclosed, written_statement, written_statements}
+use Rattle.luf_bare.specs.Writing.{opens, sign_opens, guarded_if, after_guard, enclosed}
 use Rattle.luf_min.specs.declared.item.Item.{Item}
 use Rattle.luf_min.specs.declared.item.Item.TheVariants.{Token, Sign}
-use Rattle.luf_min.specs.inner.Items.{kind_of, item_of, added_items, never_trails, never_encloses, of_statement, opens_first, guard_of, items_in_expression, items_in_expressions, items_in_operations, items_in_suffixes, items_in_arguments, items_in_statement, items_in_statements}
+use Rattle.luf_min.specs.inner.Items.{kind_of, item_of, added_items, never_trails, never_encloses, opens_first, guard_of, items_in_expression, items_in_expressions, items_in_operations, items_in_suffixes, items_in_arguments, items_in_statement, items_in_statements}
 use Rattle.luf_min.specs.inner.Starts.{is_empty, opens_statement}
 use Rattle.luf_min.proofs.Added.{then_on, front}
 
@@ -107,6 +107,7 @@ module _ (toks : List Tok) where
     where
       own : List Item
       own = items_in_statement toks (syntax_of_stat s)
+
       rest : tokens.Statements
       rest = statements_of (map syntax_of_stat (drop (i + 1) stats))
 

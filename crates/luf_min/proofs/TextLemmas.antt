@@ -1,5 +1,5 @@
 -- The text of words, word by word.
-use Rattle.std.proofs.Common.{◌≡◌, ℕ, zero, suc, ◌+◌, ◌<◌, ◌≤◌, Bool, true, false, ◌↔◌, Option, List, [], ◌∷◌, ◌++◌, Some, None, codes, length, length-append, take, drop, map, get_or, append-nil, append_assoc, IfSome, refl, sym, ap, ◌∙◌, subst, arith}
+use Rattle.std.proofs.Common.{◌≡◌, ℕ, ◌+◌, ◌<◌, ◌≤◌, Bool, true, false, ◌↔◌, Option, List, [], ◌∷◌, ◌++◌, Some, None, codes, length, length-append, take, drop, map, get_or, append-nil, append_assoc, IfSome, refl, sym, ap, ◌∙◌, subst, arith}
 use Rattle.std.specs.Prelude.{slice_get, IsTrue}
 use Rattle.std.proofs.lemmas.List.{take_more, take-take, length-map}
 use Rattle.std.proofs.Math.ListN.{get_or-map}
@@ -59,10 +59,10 @@ written_more words n old mid new word last from w one added = record {
 }
 
 -- the words up to one, with it
-pub words_more : {X : Type 0} (says : X → List ℕ) (items : List X) (n : ℕ) (x : X) → n < length items → x ≡ get_or items n x → take (n + 1) (map says items) ≡ take n (map says items) ++ says x ∷ []
-words_more says items n x inside is =
-    take_more (map says items) n (says x) (omega (arith, inside, length-map items says))
-    ∙ ap (λ w. take n (map says items) ++ w ∷ []) (get_or-map says items n x ∙ ap says (sym is))
+pub words_more : {X : Type 0} (says : X → List ℕ) (items : List X) (n : ℕ) (d : X) → n < length items → take (n + 1) (map says items) ≡ take n (map says items) ++ says (get_or items n d) ∷ []
+words_more says items n d inside =
+    take_more (map says items) n (says d) (omega (arith, inside, length-map items says))
+    ∙ ap (λ w. take n (map says items) ++ w ∷ []) (get_or-map says items n d)
 
 -- a word behind a space or not is what comes next
 pub spaced_next : (text : List ℕ) (from : ℕ) (a b : List ℕ) (result : Bool) → a ≡ drop from text → IsTrue result ↔ NeedSpace a b → (result ≡ false → StandApart a b) → IsNext (Some (drop from text)) b (with_space result b)

@@ -10,7 +10,7 @@ use Rattle.luf_lex.specs.declared.token.Sign.TheVariants as sign
 use Rattle.luf_lex.specs.declared.token.Word.TheVariants as word
 use Rattle.luf_tree.specs.Syntax as syntax
 use Rattle.luf_tree.specs.TokenSyntax as tokens
-use Rattle.luf_bare.specs.Bare.{Worded, words_at, chosen_declared, chosen_expression, chosen_optional_expression, chosen_expressions, chosen_operation, chosen_operations, chosen_suffix, chosen_suffixes, chosen_arguments, chosen_field, chosen_fields, chosen_statement, chosen_statements, chosen_arm, chosen_arms, chosen_block, chosen_optional_block, chosen_function_body}
+use Rattle.luf_bare.specs.Bare.{words_at, chosen_declared, chosen_expression, chosen_optional_expression, chosen_expressions, chosen_operation, chosen_operations, chosen_suffix, chosen_suffixes, chosen_arguments, chosen_field, chosen_fields, chosen_statement, chosen_statements, chosen_arm, chosen_arms, chosen_block, chosen_optional_block, chosen_function_body}
 use Rattle.luf_bare.specs.Writing.{opens, written_names, written_parameters, written_attribute, written_declared, written_path, written_method, written_expression, written_for_step, written_expressions, written_operation, written_operations, written_suffix, written_suffixes, written_arguments, written_field, written_fields, written_statement, written_statements, written_arm, written_arms, written_block, written_else, written_body}
 use Rattle.luf_scope.specs.Local.{Spelling}
 use Rattle.luf_min.specs.declared.item.Item.{Item}

@@ -14,5 +14,5 @@ returns-in-Err-clause-err c = front_kept c.args.into.now.items c.loop-item.invar
 pub loop-item-preserved : goal.loop-item-preserved
 loop-item-preserved c =
     let says = spelling_of (spelled_under c.args.names.now (spelling_in c.args.src.now c.args.cut.now)) in
-    written_more (map says c.args.items.now) c.loop-item.item-index c.args.into.now.items c.loop-item.into.items c.write_item.new.into.items (says c.item-item.result) c.loop-item.last c.in-Ok.from c.loop-item.invariant
-    (words_more says c.args.items.now c.loop-item.item-index c.item-item.result c.loop-item-test.true c.item-item.is) c.in-Ok.ensures.ok
+    written_more (map says c.args.items.now) c.loop-item.item-index c.args.into.now.items c.loop-item.into.items c.write_item.new.into.items _ c.loop-item.last c.in-Ok.from c.loop-item.invariant
+    (words_more says c.args.items.now c.loop-item.item-index _ c.loop-item-test.true) c.in-Ok.ensures.ok

@@ -1,17 +1,17 @@
-use Rattle.std.proofs.Common.{◌≡◌, ◌+◌, true, false, not, List, [], ◌∷◌, ◌++◌, map, drop, refl, ap, ◌∙◌, append-nil, arith}
-use Rattle.std.specs.Option.{option_map}
+use Rattle.std.proofs.Common.{false, [], ◌∷◌, ◌++◌, map, refl, ap, ◌∙◌, arith}
 use Rattle.luf_lex.specs.Tokens.{toks_of}
 use Rattle.luf_lex.specs.declared.token.Sign.TheVariants as sign
 use Rattle.luf_lex.specs.declared.token.Word.TheVariants as word
-use Rattle.luf_tree.specs.declared.tree.ExprKind.TheViews.{out-Args, out-Block, out-FuncBody}
-use Rattle.luf_tree.specs.SyntaxOf.{expressions_of, operations_of, suffixes_of, fields_of, statements_of, arms_of, optional_expression_of, optional_block_of, syntax_of_expr, syntax_of_field, syntax_of_suffix, syntax_of_step, syntax_of_stat, syntax_of_arm, syntax_of_block, syntax_of_body}
+use Rattle.luf_tree.specs.declared.tree.ExprKind.TheViews.{out-Stat, out-Block, out-FuncBody}
+use Rattle.luf_tree.specs.TokenSyntax.{from_to}
+use Rattle.luf_tree.specs.SyntaxOf.{expressions_of, operations_of, suffixes_of, fields_of, statements_of, syntax_of_expr, syntax_of_field, syntax_of_suffix, syntax_of_step, syntax_of_stat, syntax_of_arm, syntax_of_block, syntax_of_body}
 use Rattle.luf_tree.proofs.SyntaxEquations as eq
-use Rattle.luf_scope.proofs.TreeReads.{expr_read, stat_read, block_read, arm_read, step_read, args_read, body_read}
+use Rattle.luf_scope.proofs.TreeReads.{expr_read, stat_read, block_read, arm_read, step_read, body_read}
 use Rattle.luf_min.specs.declared.item.Item.TheVariants.{Word, Sign}
-use Rattle.luf_min.specs.inner.Items.{items_in_expression, items_in_expressions, items_in_values, items_in_operation, items_in_operations, items_in_suffix, items_in_suffixes, items_in_arguments, items_in_field, items_in_fields, items_in_statement, items_in_statements, items_in_arm, items_in_block, items_to_end, items_in_do, items_in_body}
+use Rattle.luf_min.specs.inner.Items.{items_in_expression, items_in_expressions, items_in_values, items_in_operation, items_in_operations, items_in_suffix, items_in_suffixes, items_in_field, items_in_fields, items_in_statement, items_in_statements, items_in_arm, items_in_block, items_in_do, items_in_body}
 use Rattle.luf_min.specs.inner.Listed.{names_listed, parameters_listed, declared_listed, path_listed}
 use Rattle.luf_min.proofs.Added.{ends, then, all_of, whole, whole_on, lent, lent_on, one_more, one_listed, all_listed}
-use Rattle.luf_min.proofs.ListedLaws.{exprs_are, fields_are, arms_are, local_is, function_is, for_in_is, body_is}
+use Rattle.luf_min.proofs.ListedLaws.{exprs_are, fields_are, arms_are, local_is, function_is, for_in_is, body_is, values_some}
 use Rattle.luf_min.proofs.StatementLaws.{one_guarded}
 use Rattle.luf_min.proofs.walk.+walk.Goals as goal
 
@@ -55,7 +55,7 @@ pub of_arm-returns : goal.of_arm-returns
 of_arm-returns t c = all_of _ _ _ _ _ (ap (items_in_arm (toks_of c.args.cut.now)) (arm_read c.args.a.now)) (then _ _ _ _ _ _ c.in_ok-of_expr.ensures (then _ _ _ _ _ _ c.in_ok-add_word.ensures (ends _ _ _ _ c.of_block.ensures)))
 
 pub of_body-returns : goal.of_body-returns
-of_body-returns t c = all_of _ _ _ _ _ (ap (items_in_body (toks_of c.args.cut.now)) (body_read c.args.f.now) ∙ body_is (toks_of c.args.cut.now) _ (out-FuncBody c.args.f.now).params (out-FuncBody c.args.f.now).vararg (syntax_of_block (out-FuncBody c.args.f.now).body)) (then _ _ _ _ _ _ (lent_on (λ ns. parameters_listed ns (out-FuncBody c.args.f.now).vararg) ((out-FuncBody c.args.f.now).params) _ _ _ c.as_slice.ensures c.in_ok-add_parameters.ensures) (ends _ _ _ _ c.of_block_to_end.ensures))
+of_body-returns t c = all_of _ _ _ _ _ (ap (items_in_body (toks_of c.args.cut.now)) (body_read c.args.f.now) ∙ body_is (toks_of c.args.cut.now) (from_to (out-FuncBody c.args.f.now).from (out-FuncBody c.args.f.now).to) (out-FuncBody c.args.f.now).params (out-FuncBody c.args.f.now).vararg (syntax_of_block (out-FuncBody c.args.f.now).body)) (then _ _ _ _ _ _ (lent_on (λ ns. parameters_listed ns (out-FuncBody c.args.f.now).vararg) ((out-FuncBody c.args.f.now).params) _ _ _ c.as_slice.ensures c.in_ok-add_parameters.ensures) (ends _ _ _ _ c.of_block_to_end.ensures))
 
 pub of_expr-returns-in_ok-of_expr-in-Paren : goal.of_expr-returns-in_ok-of_expr-in-Paren
 of_expr-returns-in_ok-of_expr-in-Paren t c = all_of _ _ _ _ _ (ap (items_in_expression (toks_of c.args.cut.now)) (expr_read c.args.e.now _ c.in-Paren.is ∙ eq.paren_syntax _ _ c.in-Paren.inner)) (then _ _ _ _ _ _ c.in_ok-add_sign-in-Paren.ensures (then _ _ _ _ _ _ (lent_on (λ x. items_in_expression (toks_of c.args.cut.now) (syntax_of_expr x)) c.in-Paren.inner _ _ _ c.get.ensures c.in_ok-of_expr-in-Paren.ensures) (ends _ _ _ _ c.add_sign-in-Paren-2.ensures)))
@@ -99,8 +99,11 @@ of_field-returns-in_ok-add_sign-in-Named t c = all_of _ _ _ _ _ (ap (λ f. items
 pub of_field-returns-in_ok-add_sign-in-Keyed-3 : goal.of_field-returns-in_ok-add_sign-in-Keyed-3
 of_field-returns-in_ok-add_sign-in-Keyed-3 t c = all_of _ _ _ _ _ (ap (λ f. items_in_field (toks_of c.args.cut.now) (syntax_of_field f)) c.in-Keyed.is ∙ ap (items_in_field (toks_of c.args.cut.now)) (eq.keyed_syntax c.in-Keyed.key c.in-Keyed.value)) (then _ _ _ _ _ _ c.in_ok-add_sign-in-Keyed.ensures (then _ _ _ _ _ _ (lent_on (λ x. items_in_expression (toks_of c.args.cut.now) (syntax_of_expr x)) c.in-Keyed.key _ _ _ c.get.ensures c.in_ok-of_expr-in-Keyed.ensures) (then _ _ _ _ _ _ c.in_ok-add_sign-in-Keyed-2.ensures (then _ _ _ _ _ _ c.in_ok-add_sign-in-Keyed-3.ensures (ends _ _ _ _ c.of_expr-in-Keyed-2.ensures)))))
 
+pub of_values-returns-in_ok-add_sign-in-len1-up : goal.of_values-returns-in_ok-add_sign-in-len1-up
+of_values-returns-in_ok-add_sign-in-len1-up t c = all_of _ _ _ _ _ (values_some (toks_of c.args.cut.now) c.args.values.now (omega (arith, c.in-len1-up.len_at_least))) (then _ _ _ _ _ _ c.in_ok-add_sign-in-len1-up.ensures (ends _ _ _ _ c.of_exprs.ensures))
+
 pub of_stat-returns-in_ok-add_local-in-Local : goal.of_stat-returns-in_ok-add_local-in-Local
-of_stat-returns-in_ok-add_local-in-Local t c = all_of _ _ _ _ _ (ap (items_in_statement (toks_of c.args.cut.now)) (stat_read c.args.s.now _ c.in-Local.is ∙ eq.local_syntax _ _ c.in-Local.names c.in-Local.values) ∙ local_is (toks_of c.args.cut.now) _ c.in-Local.names (expressions_of (map syntax_of_expr c.in-Local.values))) (then _ _ _ _ _ _ (lent_on (λ ns. Word word.Local ∷ declared_listed ns) c.in-Local.names _ _ _ c.as_slice.ensures c.in_ok-add_local-in-Local.ensures) (ends _ _ _ _ (lent (λ xs. items_in_values (toks_of c.args.cut.now) (expressions_of (map syntax_of_expr xs))) c.in-Local.values _ _ _ _ c.as_slice-in-Local.ensures c.of_values.ensures)))
+of_stat-returns-in_ok-add_local-in-Local t c = all_of _ _ _ _ _ (ap (items_in_statement (toks_of c.args.cut.now)) (stat_read c.args.s.now _ c.in-Local.is ∙ eq.local_syntax _ _ c.in-Local.names c.in-Local.values) ∙ local_is (toks_of c.args.cut.now) (from_to (out-Stat c.args.s.now).from (out-Stat c.args.s.now).to) c.in-Local.names (expressions_of (map syntax_of_expr c.in-Local.values))) (then _ _ _ _ _ _ (lent_on (λ ns. Word word.Local ∷ declared_listed ns) c.in-Local.names _ _ _ c.as_slice.ensures c.in_ok-add_local-in-Local.ensures) (ends _ _ _ _ (lent (λ xs. items_in_values (toks_of c.args.cut.now) (expressions_of (map syntax_of_expr xs))) c.in-Local.values _ _ _ _ c.as_slice-in-Local.ensures c.of_values.ensures)))
 
 pub of_stat-returns-in_ok-add_sign-in-Assign : goal.of_stat-returns-in_ok-add_sign-in-Assign
 of_stat-returns-in_ok-add_sign-in-Assign t c = all_of _ _ _ _ _ (ap (items_in_statement (toks_of c.args.cut.now)) (stat_read c.args.s.now _ c.in-Assign.is ∙ eq.assign_syntax _ _ c.in-Assign.targets c.in-Assign.values)) (then _ _ _ _ _ _ (lent_on (λ xs. items_in_expressions (toks_of c.args.cut.now) (expressions_of (map syntax_of_expr xs))) c.in-Assign.targets _ _ _ c.as_slice-in-Assign.ensures c.in_ok-of_exprs-in-Assign.ensures) (then _ _ _ _ _ _ c.in_ok-add_sign-in-Assign.ensures (ends _ _ _ _ (lent (λ xs. items_in_expressions (toks_of c.args.cut.now) (expressions_of (map syntax_of_expr xs))) c.in-Assign.values _ _ _ _ c.as_slice-in-Assign-2.ensures c.of_exprs-in-Assign.ensures))))
@@ -118,10 +121,10 @@ pub of_stat-returns-in_ok-add_word-in-Repeat-2 : goal.of_stat-returns-in_ok-add_
 of_stat-returns-in_ok-add_word-in-Repeat-2 t c = all_of _ _ _ _ _ (ap (items_in_statement (toks_of c.args.cut.now)) (stat_read c.args.s.now _ c.in-Repeat.is ∙ eq.repeat_syntax _ _ c.in-Repeat.body c.in-Repeat.test)) (then _ _ _ _ _ _ c.in_ok-add_word-in-Repeat.ensures (then _ _ _ _ _ _ c.in_ok-of_block-in-Repeat.ensures (then _ _ _ _ _ _ c.in_ok-add_word-in-Repeat-2.ensures (ends _ _ _ _ (lent (λ x. items_in_expression (toks_of c.args.cut.now) (syntax_of_expr x)) c.in-Repeat.test _ _ _ _ c.get-in-Repeat.ensures c.of_expr-in-Repeat.ensures)))))
 
 pub of_stat-returns-in_ok-of_exprs-in-ForIn : goal.of_stat-returns-in_ok-of_exprs-in-ForIn
-of_stat-returns-in_ok-of_exprs-in-ForIn t c = all_of _ _ _ _ _ (ap (items_in_statement (toks_of c.args.cut.now)) (stat_read c.args.s.now _ c.in-ForIn.is ∙ eq.for_in_syntax _ _ c.in-ForIn.names c.in-ForIn.values c.in-ForIn.body) ∙ for_in_is (toks_of c.args.cut.now) _ c.in-ForIn.names _ _) (then _ _ _ _ _ _ (lent_on (λ ns. Word word.For ∷ (names_listed ns ++ (Word word.In ∷ []))) c.in-ForIn.names _ _ _ (c.as_slice-in-ForIn.ensures ∙ c.get-in-ForIn.ensures) c.in_ok-add_for_in-in-ForIn.ensures) (then _ _ _ _ _ _ (lent_on (λ xs. items_in_expressions (toks_of c.args.cut.now) (expressions_of (map syntax_of_expr xs))) c.in-ForIn.values _ _ _ c.as_slice-in-ForIn-2.ensures c.in_ok-of_exprs-in-ForIn.ensures) (ends _ _ _ _ (lent (λ b. items_in_do (toks_of c.args.cut.now) (syntax_of_block b)) c.in-ForIn.body _ _ _ _ c.get-in-ForIn-2.ensures c.of_do-in-ForIn.ensures))))
+of_stat-returns-in_ok-of_exprs-in-ForIn t c = all_of _ _ _ _ _ (ap (items_in_statement (toks_of c.args.cut.now)) (stat_read c.args.s.now _ c.in-ForIn.is ∙ eq.for_in_syntax _ _ c.in-ForIn.names c.in-ForIn.values c.in-ForIn.body) ∙ for_in_is (toks_of c.args.cut.now) (from_to (out-Stat c.args.s.now).from (out-Stat c.args.s.now).to) c.in-ForIn.names (expressions_of (map syntax_of_expr c.in-ForIn.values)) (syntax_of_block c.in-ForIn.body)) (then _ _ _ _ _ _ (lent_on (λ ns. Word word.For ∷ (names_listed ns ++ (Word word.In ∷ []))) c.in-ForIn.names _ _ _ (c.as_slice-in-ForIn.ensures ∙ c.get-in-ForIn.ensures) c.in_ok-add_for_in-in-ForIn.ensures) (then _ _ _ _ _ _ (lent_on (λ xs. items_in_expressions (toks_of c.args.cut.now) (expressions_of (map syntax_of_expr xs))) c.in-ForIn.values _ _ _ c.as_slice-in-ForIn-2.ensures c.in_ok-of_exprs-in-ForIn.ensures) (ends _ _ _ _ (lent (λ b. items_in_do (toks_of c.args.cut.now) (syntax_of_block b)) c.in-ForIn.body _ _ _ _ c.get-in-ForIn-2.ensures c.of_do-in-ForIn.ensures))))
 
 pub of_stat-returns-in_ok-add_function-in-Function : goal.of_stat-returns-in_ok-add_function-in-Function
-of_stat-returns-in_ok-add_function-in-Function t c = all_of _ _ _ _ _ (ap (items_in_statement (toks_of c.args.cut.now)) (stat_read c.args.s.now _ c.in-Function.is ∙ eq.function_stat_syntax _ _ c.in-Function.path c.in-Function.method c.in-Function.body) ∙ function_is (toks_of c.args.cut.now) _ c.in-Function.path c.in-Function.method _) (then _ _ _ _ _ _ (lent_on (λ ns. Word word.Function ∷ path_listed ns c.in-Function.method) c.in-Function.path _ _ _ c.as_slice-in-Function.ensures c.in_ok-add_function-in-Function.ensures) (ends _ _ _ _ (lent (λ f. items_in_body (toks_of c.args.cut.now) (syntax_of_body f)) c.in-Function.body _ _ _ _ c.get-in-Function.ensures c.of_body.ensures)))
+of_stat-returns-in_ok-add_function-in-Function t c = all_of _ _ _ _ _ (ap (items_in_statement (toks_of c.args.cut.now)) (stat_read c.args.s.now _ c.in-Function.is ∙ eq.function_stat_syntax _ _ c.in-Function.path c.in-Function.method c.in-Function.body) ∙ function_is (toks_of c.args.cut.now) (from_to (out-Stat c.args.s.now).from (out-Stat c.args.s.now).to) c.in-Function.path c.in-Function.method (syntax_of_body c.in-Function.body)) (then _ _ _ _ _ _ (lent_on (λ ns. Word word.Function ∷ path_listed ns c.in-Function.method) c.in-Function.path _ _ _ c.as_slice-in-Function.ensures c.in_ok-add_function-in-Function.ensures) (ends _ _ _ _ (lent (λ f. items_in_body (toks_of c.args.cut.now) (syntax_of_body f)) c.in-Function.body _ _ _ _ c.get-in-Function.ensures c.of_body.ensures)))
 
 pub of_stat-returns-in_ok-add_local_function-in-LocalFunction : goal.of_stat-returns-in_ok-add_local_function-in-LocalFunction
 of_stat-returns-in_ok-add_local_function-in-LocalFunction t c = all_of _ _ _ _ _ (ap (items_in_statement (toks_of c.args.cut.now)) (stat_read c.args.s.now _ c.in-LocalFunction.is ∙ eq.local_function_syntax _ _ c.in-LocalFunction.name c.in-LocalFunction.body)) (then _ _ _ _ _ _ c.in_ok-add_local_function-in-LocalFunction.ensures (ends _ _ _ _ (lent (λ f. items_in_body (toks_of c.args.cut.now) (syntax_of_body f)) c.in-LocalFunction.body _ _ _ _ c.get-in-LocalFunction.ensures c.of_body-in-LocalFunction.ensures)))
