@@ -4,6 +4,7 @@ use Rattle.std.specs.Option.{option_map}
 use Rattle.luf_lex.specs.declared.token.Tok.{Tok}
 use Rattle.luf_lex.specs.declared.token.Tok.TheVariants.{Word, Sign}
 use Rattle.luf_lex.specs.declared.token.Word.TheVariants as word
+use Rattle.luf_lex.specs.declared.token.Sign.{Sign as Mark}
 use Rattle.luf_lex.specs.declared.token.Sign.TheVariants as sign
 use Rattle.luf_tree.specs.Syntax as syntax
 use Rattle.luf_tree.specs.TokenSyntax as tokens
@@ -25,7 +26,7 @@ each_at all_none other i within = absurd (omega (arith, within))
 each_at (all_more fits all) other zero within = fits
 each_at (all_more fits all) other (suc i) within = each_at all other i (omega (arith, within))
 
-module _ {X : Type 0} (kind : X → Tok) (put : Tok → X) (add : Tok → List X) (trails : tokens.Span → Bool) (encloses : tokens.Span → Bool → Bool) (says : ℕ → X) (Fits : X → Type 0) (puts : (t : Tok) → Fits (put t)) (additions : (t : Tok) → Each Fits (add t)) (fits : (i : ℕ) → Fits (says i)) where
+module _ {X : Type 0} (kind : X → Tok) (put : Tok → X) (add : Tok → List X) (trails : tokens.Span → Bool) (encloses : tokens.Span → Bool → Bool) (says : ℕ → X) (Fits : X → Type 0) (puts : (t : Tok) → Fits (put t)) (additions : (s : Mark) → Each Fits (add (Sign s))) (fits : (i : ℕ) → Fits (says i)) where
   each_more_names : (names : List ℕ) → Each Fits (written_more_names kind put add trails (map says names))
   each_more_names [] = all_none
   each_more_names (name ∷ names) = all_more (puts (Sign sign.Comma)) (all_more (fits _) (each_more_names names))
@@ -66,7 +67,7 @@ module _ {X : Type 0} (kind : X → Tok) (put : Tok → X) (add : Tok → List X
   EachIf (Some s) = Each Fits (written_statement kind put add trails s)
 
   each_guarded_if : (paren : Bool) {words : List X} → Each Fits words → Each Fits (guarded_if kind put add trails paren words)
-  each_guarded_if true all = each_append (additions (Sign sign.Semicolon)) all
+  each_guarded_if true all = each_append (additions sign.Semicolon) all
   each_guarded_if false all = all
 
   each_guarded : (words : List X) → Each Fits words → Each Fits (guarded kind put add trails words)
@@ -78,12 +79,12 @@ module _ {X : Type 0} (kind : X → Tok) (put : Tok → X) (add : Tok → List X
   each_after_guard false words all = all
 
   each_separated : (trailing : Bool) → Each Fits (separated kind put add trails trailing)
-  each_separated true = additions (Sign sign.Comma)
+  each_separated true = additions sign.Comma
   each_separated false = all_none
 
   each_enclosed : (lone wanted : Bool) {words : List X} → Each Fits words → Each Fits (enclosed kind put add trails lone wanted words)
   each_enclosed false wanted all = all_more (puts (Sign sign.LeftParen)) (each_append all (all_more (puts (Sign sign.RightParen)) all_none))
-  each_enclosed true true all = each_append (additions (Sign sign.LeftParen)) (each_append all (additions (Sign sign.RightParen)))
+  each_enclosed true true all = each_append (additions sign.LeftParen) (each_append all (additions sign.RightParen))
   each_enclosed true false all = all
 
   each_before : (others : Bool) (s : Option (syntax.Statement (Worded tokens.Span X))) → EachIf s → (rest : syntax.Statements (Worded tokens.Span X)) → ((later : Bool) → Each Fits (written_statements kind put add trails later rest)) → Each Fits (written_statements kind put add trails others (before s rest))
@@ -146,7 +147,7 @@ module _ {X : Type 0} (kind : X → Tok) (put : Tok → X) (add : Tok → List X
 
     each_more_fields : (flag : Bool) (s : tokens.Fields) → Each Fits (written_more_fields kind put add trails flag (chosen_fields (words_at says) encloses s))
     each_more_fields trailing syntax.no_fields = each_separated trailing
-    each_more_fields trailing (syntax.more_fields first rest) = each_append (additions (Sign sign.Comma)) (each_append (each_field first) (each_more_fields trailing rest))
+    each_more_fields trailing (syntax.more_fields first rest) = each_append (additions sign.Comma) (each_append (each_field first) (each_more_fields trailing rest))
 
     each_fields : (flag : Bool) (s : tokens.Fields) → Each Fits (written_fields kind put add trails flag (chosen_fields (words_at says) encloses s))
     each_fields trailing syntax.no_fields = all_none

@@ -9,7 +9,7 @@ use Rattle.luf_tree.specs.declared.tree.Chunk.{Chunk}
 use Rattle.luf_tree.specs.Grammar.{IsToken, NoParenFollows, IsBlock, IsChunk}
 use Rattle.luf_tree.specs.SyntaxMap.{ShapeMap, map_block}
 use Rattle.luf_tree.specs.SyntaxOf.{syntax_of}
-use Rattle.luf_tree.specs.Level.{levels_of_block}
+use Rattle.luf_tree.specs.Level.{levels_of_block, depth_of}
 use Rattle.luf_tree.specs.TokenSyntax as tokens
 use Rattle.luf_bare.specs.Bare.{Bare, always, bare_block, words_of}
 use Rattle.luf_bare.specs.Dropped.{if_dropped}
@@ -121,6 +121,16 @@ one_depth f g chunk other same = sym (block_levels f always (syntax_of chunk)) �
 abbrev unflagged : ShapeMap (Bare TextWord) (Bare SpelledToken)
 unflagged = record { span = λ s. s; name = λ w. w.spelled; label = λ w. w.spelled; leaf = λ w. w.spelled }
 
+-- a text is read as the program, without flags too
+pub spelled_alike : (source : List SpelledToken) (chunk : Chunk) (text : List TextWord) (read : IsRead text (program source chunk))
+    → bare_block (words_of (λ i. (word_at text i).spelled)) (syntax_of read.tree) ≡ bare_block (words_of (spelled_at source)) (syntax_of chunk)
+spelled_alike source chunk text read =
+    sym (block_after unflagged (words_of (word_at text)) always (syntax_of read.tree)) ∙ ap (map_block unflagged) read.same ∙ block_after unflagged (words_of (λ i. own_word (spelled_at source i))) always (syntax_of chunk)
+
+-- and it is as deep
+pub depth_alike : (source : List SpelledToken) (chunk : Chunk) (text : List TextWord) (read : IsRead text (program source chunk)) → depth_of read.tree ≡ depth_of chunk
+depth_alike source chunk text read = one_depth (words_of (λ i. (word_at text i).spelled)) (words_of (spelled_at source)) read.tree chunk (spelled_alike source chunk text read)
+
 -- what stands at each place of a text is its token, and the keywords and signs are spelled so
 module _ (spell : Tok → List ℕ) (source : List SpelledToken) (are_spelled : AreSpelled spell source) where
   abbrev IsSpelled : TextWord → Type 0
@@ -129,7 +139,7 @@ module _ (spell : Tok → List ℕ) (source : List SpelledToken) (are_spelled : 
   text_spelled : (trails : tokens.Span → Bool) (encloses : tokens.Span → Bool → Bool) (chunk : Chunk) → Each IsSpelled (text_of spell source trails encloses chunk)
   text_spelled trails encloses chunk =
       each_block token_of (λ t. own_word (spelled_by spell t)) (λ t. added_word (spelled_by spell t) ∷ []) trails encloses (λ i. own_word (spelled_at source i)) IsSpelled
-      (λ t _. refl) (λ t. all_more (λ _. refl) all_none) are_spelled (syntax_of chunk)
+      (λ t _. refl) (λ s. all_more (λ _. refl) all_none) are_spelled (syntax_of chunk)
 
   -- the significant tokens of a text of which a chunk is read
   text_significant : (text : List TextWord) (tree : Chunk) → Each IsSpelled text → IsChunk (map token_of text) tree → significant_words (λ i. (word_at text i).spelled) (length text) tree ≡ own_words spell (λ i. (word_at text i).spelled) tree
@@ -145,12 +155,10 @@ module _ (spell : Tok → List ℕ) (source : List SpelledToken) (are_spelled : 
       text_is_read (program source chunk) text
       (tell_block token_of is_added (λ t. own_word (spelled_by spell t)) (λ t. added_word (spelled_by spell t)) (λ t. (refl, refl)) (λ t. (refl, refl)) (map spelled_token source) (λ i. own_word (spelled_at source i))
       (λ i t there. token_at spelled_token source _ i t there) (λ i. refl) trails encloses derived) in
-      let same : bare_block (words_of (λ i. (word_at text i).spelled)) (syntax_of read.tree) ≡ bare_block (words_of (spelled_at source)) (syntax_of chunk) =
-      sym (block_after unflagged (words_of (word_at text)) always (syntax_of read.tree)) ∙ ap (map_block unflagged) read.same ∙ block_after unflagged (words_of (λ i. own_word (spelled_at source i))) always (syntax_of chunk) in
       record {
         read = read;
         significant = text_significant text read.tree (text_spelled trails encloses chunk) read.is_tree
-            ∙ ap (written_block spelled_token (spelled_by spell) (λ _. []) (λ _. false)) same
+            ∙ ap (written_block spelled_token (spelled_by spell) (λ _. []) (λ _. false)) (spelled_alike source chunk text read)
             ∙ sym (significant_are_written spell source chunk derived are_spelled);
       }
 

@@ -4,7 +4,7 @@ use Rattle.std.specs.List.{filter_map, cons_option, list_any}
 use Rattle.std.proofs.lemmas.Option.{none-some, same_Some, slice_get_within, get_or_from_slice_get}
 use Rattle.std.proofs.lemmas.Bool.{or_cases, or_left, or_right, false_from_ne_true}
 use Rattle.std.proofs.lemmas.List.Elements.{All-head, All-tail, All-cons, All-nil}
-use Rattle.luf_resolved.proofs.Paired.{Paired, PairedOption, nothing, more, neither, both}
+use Rattle.luf_resolved.proofs.Paired.{Paired, nothing, more}
 
 pub data Among {X : Type 0} (x : X) : List X → Type 0 where
   here : {xs : List X} → Among x (x ∷ xs)

@@ -1,5 +1,5 @@
 -- Under least names a source without scope faults has none.
-use Rattle.std.proofs.Common.{◌≡◌, ℕ, false, not, ◌&&◌, ◌||◌, cond, Option, Some, None, List, [], ◌∷◌, ◌++◌, map, All, is_none, slice_get, nat_le, nat_lt, nat_eq, length, refl, sym, ap, subst, ◌∙◌, bytes_eq, codes}
+use Rattle.std.proofs.Common.{◌≡◌, ℕ, true, false, not, ◌&&◌, ◌||◌, cond, Option, Some, None, List, [], ◌∷◌, ◌++◌, map, All, is_none, is_some, slice_get, nat_le, nat_lt, nat_eq, length, refl, sym, ap, subst, ◌∙◌, bytes_eq, codes}
 use Rattle.std.specs.List.{filter_map, list_any}
 use Rattle.std.specs.Option.{option_map_or, option_and_then}
 use Rattle.std.proofs.lemmas.Bool.{eq-eqb}
@@ -19,8 +19,8 @@ use Rattle.luf_scope.proofs.Places.{block_lies}
 use Rattle.luf_scope.proofs.Blocks.{block_lies as blocks_lie}
 use Rattle.luf_resolved.proofs.Paired.{PairedOption, neither, both, paired_option, same_any as same_any_paired}
 use Rattle.luf_interf.specs.NewNames.{Naming, AreLeast}
-use Rattle.luf_interf.specs.RenamingLaws.{said_in, LeastNamesHaveNoFault}
-use Rattle.luf_interf.proofs.Among.{Among, index_of, any_none, any_of, given, paired_back, same_any, same_given, none_given, paired_given}
+use Rattle.luf_interf.specs.RenamingLaws.{said_in, HaveLabels, LeastNamesHaveNoFault}
+use Rattle.luf_interf.proofs.Among.{Among, all_from, index_of, any_none, any_of, given, paired_back, same_any, same_given, none_given, paired_given}
 use Rattle.luf_interf.proofs.NewLocals.{told, Respelled, locals_respelled}
 use Rattle.luf_interf.proofs.Roles.{reference_alike}
 use Rattle.luf_interf.proofs.Labels.{LabelRespelled, GotoRespelled, labels_respelled, gotos_respelled, target_at, none_twice}
@@ -50,6 +50,25 @@ none_at (t ∷ tokens) mark is = absurd cc
 
 among_none : {X : Type 0} (x : X) → Among x [] → ⊥
 among_none x m = elim m [ ]
+
+-- without faults each goto has a label to go to
+goto_targets : (spelled : Spelling) (os : List Occurrence) → jump_faults spelled os ≡ [] → (g : GotoAt) → Among g (gotos_of spelled os) → target (labels_of spelled os) g ≡ None → ⊥
+goto_targets spelled os is g m none =
+    let last = both_empty _ (marked BreakOutside (filter_map (break_outside spelled os) os)) is in
+    let third = both_empty _ (marked JumpIntoScope (filter_map (into_scope spelled os) (gotos_of spelled os))) last.0 in
+    let second = both_empty (marked LabelTwice (filter_map (label_twice spelled os) (labels_of spelled os))) (marked NoLabel (filter_map (without_label spelled os) (gotos_of spelled os))) third.0 in
+    let empty : filter_map (without_label spelled os) (gotos_of spelled os) ≡ [] = none_at (filter_map (without_label spelled os) (gotos_of spelled os)) (λ token. record { token = token; what = NoLabel }) second.1 in
+    let given_one : Among g.token (filter_map (without_label spelled os) (gotos_of spelled os)) = given (without_label spelled os) (gotos_of spelled os) g g.token m (λ i. cond (is_none (none i)) (Some g.token) None) in
+    among_none g.token (subst (λ z. Among g.token z) empty given_one)
+
+some_there : {A : Type 0} (o : Option A) → (o ≡ None → ⊥) → is_some o ≡ true
+some_there None there = absurd (there refl)
+some_there (Some x) there = refl
+
+pub have_labels : (spelled : Spelling) (os : List Occurrence) → scope_fault spelled os ≡ None → HaveLabels spelled os
+have_labels spelled os is =
+    let jumps = no_first (jump_faults spelled os) (neither_first (first_fault (name_faults spelled os)) (first_fault (jump_faults spelled os)) is).1 in
+    all_from (λ g. is_some (target (labels_of spelled os) g) ≡ true) (gotos_of spelled os) (λ g m. some_there (target (labels_of spelled os) g) (goto_targets spelled os jumps g m))
 
 module _ (a e c : ℕ) (os : List Occurrence) (lies : AreOrdered a e c os) (spelled : Spelling) (naming label_naming : Naming) (nested : All (λ u. All (AreNestedBlocks u) os) os) (least : AreLeast spelled os naming label_naming) where
   abbrev new_spelled : Spelling
@@ -159,20 +178,11 @@ module _ (a e c : ℕ) (os : List Occurrence) (lies : AreOrdered a e c os) (spel
         (λ i. marked LabelTwice (twice_none i) ++ marked NoLabel (no_label i) ++ marked JumpIntoScope (into i) ++ marked BreakOutside (breaks i))
         ∙ (λ i. second.1 i ++ third.1 i ++ last.1 i)
 
-  targets_of : jump_faults spelled os ≡ [] → (g : GotoAt) → Among g (gotos_of spelled os) → target (labels_of spelled os) g ≡ None → ⊥
-  targets_of is g m none =
-      let last = both_empty _ (marked BreakOutside (filter_map (break_outside spelled os) os)) is in
-      let third = both_empty _ (marked JumpIntoScope (filter_map (into_scope spelled os) (gotos_of spelled os))) last.0 in
-      let second = both_empty (marked LabelTwice (filter_map (label_twice spelled os) (labels_of spelled os))) (marked NoLabel (filter_map (without_label spelled os) (gotos_of spelled os))) third.0 in
-      let empty : filter_map (without_label spelled os) (gotos_of spelled os) ≡ [] = none_at (filter_map (without_label spelled os) (gotos_of spelled os)) (λ token. record { token = token; what = NoLabel }) second.1 in
-      let given_one : Among g.token (filter_map (without_label spelled os) (gotos_of spelled os)) = given (without_label spelled os) (gotos_of spelled os) g g.token m (λ i. cond (is_none (none i)) (Some g.token) None) in
-      among_none g.token (subst (λ z. Among g.token z) empty given_one)
-
   pub none_kept : scope_fault spelled os ≡ None → scope_fault new_spelled os ≡ None
   none_kept is =
       let parts = neither_first (first_fault (name_faults spelled os)) (first_fault (jump_faults spelled os)) is in
       let jumps = no_first (jump_faults spelled os) parts.1 in
-      let kept = jumps_kept (targets_of jumps) jumps in
+      let kept = jumps_kept (goto_targets spelled os jumps) jumps in
       (λ i. first_of (first_fault (names_kept i)) (first_fault (kept i))) ∙ (λ i. first_of (parts.0 i) None)
 
 pub least_names_have_no_fault : LeastNamesHaveNoFault

@@ -1,6 +1,6 @@
 -- The new words: at each token that has a new name, a name of the order that is not barred; elsewhere what stood there.
 -- Only names get one.
-use Rattle.std.proofs.Common.{◌≡◌, ℕ, zero, suc, ◌+◌, ◌⊎◌, inl, inr, Bool, true, false, cond, Option, Some, None, List, [], ◌∷◌, slice_get, nat_eq, length, refl, sym, ap, subst, ◌∙◌, zero-add, arith, ⊎_elim, if◌then◌else◌}
+use Rattle.std.proofs.Common.{◌≡◌, ℕ, suc, ◌+◌, ◌⊎◌, inl, inr, Bool, true, false, cond, Option, Some, None, List, [], ◌∷◌, slice_get, nat_eq, length, refl, sym, ap, subst, ◌∙◌, zero-add, arith, ⊎_elim, if◌then◌else◌}
 use Rattle.std.specs.Prelude.{unwrap_or}
 use Rattle.std.specs.List.{list_any, position_from}
 use Rattle.std.specs.Option.{option_map_or}
@@ -25,8 +25,8 @@ use Rattle.luf_scope.specs.Role.{is_variable, is_field, declared_at, declaration
 use Rattle.luf_scope.specs.Order.{place, behind, is_label, AreOrdered}
 use Rattle.luf_scope.proofs.Places.{block_lies}
 use Rattle.luf_resolved.specs.Resolved.{meanings}
-use Rattle.luf_interf.specs.Interference.{IsLocal, IsLabel}
-use Rattle.luf_interf.specs.NewNames.{Naming, is_fixed, AreLeast, AreNames, new_name, new_word, renamed, name_of_local, name_of_label, name_in, new_name_at}
+use Rattle.luf_interf.specs.Interference.{IsLabel}
+use Rattle.luf_interf.specs.NewNames.{Naming, is_fixed, AreLeast, AreNames, new_word, renamed, name_of_label, name_in, new_name_at}
 use Rattle.luf_interf.specs.RenamingLaws.{said_in, NamesAgree}
 use Rattle.luf_interf.proofs.Among.{Among, among_at, any_none, given_by}
 use Rattle.luf_interf.proofs.Last.{first_none}
@@ -223,7 +223,7 @@ module _ (a e c : ℕ) (os : List Occurrence) (lies : AreOrdered a e c os) (spel
       let fixed : is_fixed v ≡ true = ⊎_elim (λ there. absurd (other (subst (λ n. At toks n tok.Name) (eqb-true v.token t finds.2) there))) (λ is. is) (named_or_fixed toks spelled from.0 v from.2 (named from.0 from.1)) in
       λ i. if ((λ k. option_map_or is_fixed (finds.1 k) true) ∙ fixed) i then None else Some (naming n)
 
-  none_other : new_name_at spelled os naming label_naming t ≡ None
+  pub none_other : new_name_at spelled os naming label_naming t ≡ None
   none_other =
       (λ i. name_in spelled os naming label_naming (declaration (declared_at (locals_of spelled os) t) (cond (no_variable i) (reference (meaning (locals_of spelled os) t (spelled t))) (cond (no_field i) role.Field role.Plain))) (label_role (no_label i) (no_goto i)))
       ∙ declared_fixed (declared_at (locals_of spelled os) t) (found (λ v. nat_eq v.token t) (locals_of spelled os))

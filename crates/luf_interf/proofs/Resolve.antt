@@ -1,11 +1,10 @@
 -- A chunk under least names resolves to what it resolved to.
-use Rattle.std.proofs.Common.{◌≡◌, ℕ, ◌+◌, ◌⊎◌, inl, inr, true, false, cond, Option, Some, None, List, nat_eq, length, refl, sym, ap, subst, ◌∙◌, codes, arith}
-use Rattle.std.specs.List.{list_any, position_from}
+use Rattle.std.proofs.Common.{◌≡◌, ℕ, true, false, cond, Option, Some, None, List, length, refl, sym, ap, subst, ◌∙◌, codes, arith}
+use Rattle.std.specs.List.{list_any}
 use Rattle.std.proofs.lemmas.Option.{same_Some}
-use Rattle.std.proofs.lemmas.Bool.{eqb-true, eq-eqb, ne_eqb, false≢true}
+use Rattle.std.proofs.lemmas.Bool.{eq-eqb, false≢true}
 use Rattle.luf_lex.specs.declared.token.Tok.{Tok}
 use Rattle.luf_lex.specs.declared.token.Tok.TheVariants as tok
-use Rattle.luf_lex.specs.declared.token.Sign.TheVariants as sign
 use Rattle.luf_tree.specs.Grammar.{At}
 use Rattle.luf_tree.specs.SyntaxMap.{ShapeMap}
 use Rattle.luf_tree.specs.TokenSyntax as tokens
@@ -13,58 +12,23 @@ use Rattle.luf_scope.specs.declared.occurrence.Occurrence.{Occurrence}
 use Rattle.luf_scope.specs.declared.occurrence.Occurrence.TheVariants.{Local, LocalFunction, Parameter, ImplicitSelf, LoopVariable, Reads, Assigns, Field, Varargs, Function, Loop, Label, Goto, Break}
 use Rattle.luf_scope.specs.declared.binder.Role.TheVariants as role
 use Rattle.luf_scope.specs.Local.{Spelling, LocalVariable, kind_of, declared_by, locals_of, meaning}
-use Rattle.luf_scope.specs.Jump.{labels_of, gotos_of, goto_role, label_role, jump_role_of}
-use Rattle.luf_scope.specs.Role.{is_variable, is_field, declared_at, declaration, reference, role_of}
-use Rattle.luf_scope.specs.Order.{place, behind, declares, is_label, AreOrdered}
-use Rattle.luf_scope.proofs.Ordered.{declared_is}
+use Rattle.luf_scope.specs.Jump.{jump_role_of}
+use Rattle.luf_scope.specs.Role.{is_variable, is_field, declaration, reference, role_of}
+use Rattle.luf_scope.specs.Order.{AreOrdered}
 use Rattle.luf_scope.proofs.Places.{block_lies}
 use Rattle.luf_resolved.specs.Resolved.{Meant, name_meaning, label_number, kinds_of, meanings}
 use Rattle.luf_resolved.proofs.Paired.{Paired, PairedOption, neither, both, filtered, same_map}
 use Rattle.luf_interf.specs.Interference.{IsReference, meant}
 use Rattle.luf_interf.specs.NewNames.{Naming, new_word}
 use Rattle.luf_interf.specs.RenamingLaws.{said_in, LeastNamesResolveAlike}
-use Rattle.luf_interf.proofs.Among.{Among, among_at, any_none, any_of, given_by, given, index_of, beside_itself}
-use Rattle.luf_interf.proofs.Last.{first_none}
+use Rattle.luf_interf.proofs.Among.{Among, any_none, any_of, given, index_of, beside_itself}
 use Rattle.luf_interf.proofs.Tokens.{Has, attribute_behind, variable_named, declared_there, none_declared, one}
 use Rattle.luf_interf.proofs.NewLocals.{told, reference_role}
 use Rattle.luf_interf.proofs.Roles.{plain_there, role_alike, environment_alike}
-use Rattle.luf_interf.proofs.Labels.{is_goto, label_from, goto_from, goto_role_none, no_jump_at, least_names_keep_jumps}
+use Rattle.luf_interf.proofs.Labels.{no_jump_at, least_names_keep_jumps}
 use Rattle.luf_interf.proofs.Says.{is_word, Named, AgreeOption, Agree}
+use Rattle.luf_interf.proofs.NewWords.{none_new, none_other}
 use Rattle.luf_interf.proofs.Program.{block_says}
-
--- ---- what stands at the tokens of what is said
-
-abbrev WordAt : List Tok → ℕ → Type 0
-WordAt toks t = At toks t tok.Name ⊎ At toks t (tok.Sign sign.Colon)
-
-no_word : (toks : List Tok) (t : ℕ) (k : Tok) → At toks t k → is_word k ≡ false → WordAt toks t → ⊥
-no_word toks t k at none (inl name) = false≢true (sym none ∙ ap is_word (same_Some k tok.Name (sym at ∙ name)))
-no_word toks t k at none (inr colon) = false≢true (sym none ∙ ap is_word (same_Some k (tok.Sign sign.Colon) (sym at ∙ colon)))
-
-declares_word : (toks : List Tok) (u : Occurrence) → declares u ≡ true → Named toks u → WordAt toks (place u)
-declares_word toks (Local name attribute from to) is named = inl named
-declares_word toks (LocalFunction name from to) is named = inl named
-declares_word toks (Parameter name from to) is named = inl named
-declares_word toks (ImplicitSelf colon from to) is named = inr named
-declares_word toks (LoopVariable name from to) is named = inl named
-declares_word toks _ is named = absurd cc
-
-variable_word : (toks : List Tok) (t : ℕ) (u : Occurrence) → is_variable t u ≡ true → Named toks u → WordAt toks t
-variable_word toks t (Reads name) is named = inl (subst (λ n. At toks n tok.Name) (sym (eqb-true t name is)) named)
-variable_word toks t (Assigns name) is named = inl (subst (λ n. At toks n tok.Name) (sym (eqb-true t name is)) named)
-variable_word toks t _ is named = absurd cc
-
-field_word : (toks : List Tok) (t : ℕ) (u : Occurrence) → is_field t u ≡ true → Named toks u → WordAt toks t
-field_word toks t (Field name) is named = inl (subst (λ n. At toks n tok.Name) (sym (eqb-true t name is)) named)
-field_word toks t _ is named = absurd cc
-
-label_word : (toks : List Tok) (u : Occurrence) → is_label u ≡ true → Named toks u → WordAt toks (place u)
-label_word toks (Label name from to at_end) is named = inl named
-label_word toks _ is named = absurd cc
-
-goto_word : (toks : List Tok) (u : Occurrence) (n : ℕ) → is_goto u ≡ true → behind u ≡ n + 1 → Named toks u → WordAt toks n
-goto_word toks (Goto token name) n is last named = let same : name ≡ n = omega (arith, last) in inl (subst (λ k. At toks k tok.Name) same named)
-goto_word toks _ n is last named = absurd cc
 
 -- ---- what keeps its word, and names
 
@@ -78,29 +42,7 @@ module _ (a e c : ℕ) (os : List Occurrence) (lies : AreOrdered a e c os) (spel
 
   literal_kept : (toks : List Tok) → ((u : Occurrence) → Among u os → Named toks u) → (t : ℕ) (k : Tok) → At toks t k → is_word k ≡ false → new_spelled t ≡ spelled t
   literal_kept toks named t k at none =
-      plain_kept t (λ i. declaration (undeclared i) (cond (no_variable i) (reference (meaning (locals_of spelled os) t (spelled t))) (cond (no_field i) role.Field role.Plain))) (λ i. label_role (no_label i) (no_goto i))
-    where
-      undeclared : declared_at (locals_of spelled os) t ≡ None
-      undeclared = first_none (λ v. nat_eq v.token t) 0 (locals_of spelled os) (λ n v found. ne_eqb v.token t (λ same.
-          let from = given_by (declared_by spelled) os v (among_at (locals_of spelled os) n v found) in
-          let d = declared_is spelled from.0 v from.2 in
-          no_word toks t k at none (subst (WordAt toks) (sym d.token ∙ same) (declares_word toks from.0 d.is (named from.0 from.1)))))
-
-      no_variable : list_any (is_variable t) os ≡ false
-      no_variable = any_none (is_variable t) os (λ u m is. no_word toks t k at none (variable_word toks t u is (named u m)))
-
-      no_field : list_any (is_field t) os ≡ false
-      no_field = any_none (is_field t) os (λ u m is. no_word toks t k at none (field_word toks t u is (named u m)))
-
-      no_label : position_from (λ l. nat_eq l.token t) 0 (labels_of spelled os) ≡ None
-      no_label = first_none (λ l. nat_eq l.token t) 0 (labels_of spelled os) (λ n l found. ne_eqb l.token t (λ same.
-          let from = label_from a e c os lies spelled l (among_at (labels_of spelled os) n l found) in
-          no_word toks t k at none (subst (WordAt toks) (from.2.token ∙ same) (label_word toks from.0 from.2.is (named from.0 from.1)))))
-
-      no_goto : goto_role (labels_of spelled os) (gotos_of spelled os) t ≡ None
-      no_goto = goto_role_none (labels_of spelled os) (gotos_of spelled os) t (λ g m same.
-          let from = goto_from a e c os lies spelled g m in
-          no_word toks t k at none (subst (WordAt toks) same (goto_word toks from.0 g.label from.2.is from.2.behind (named from.0 from.1))))
+      none_new spelled os naming label_naming t (none_other a e c os lies spelled naming label_naming toks named t (λ name. false≢true (sym none ∙ ap is_word (same_Some k tok.Name (sym at ∙ name)))))
 
   pub attribute_kept : (name b from to : ℕ) → Among (Local name (Some b) from to) os → new_spelled b ≡ spelled b
   attribute_kept name b from to m =

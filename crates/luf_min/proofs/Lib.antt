@@ -11,3 +11,7 @@ pub mod ItemsSpelled
 pub mod NewSpelling
 pub mod PiecesWithin
 pub mod TextLemmas
+pub mod SpelledTokens
+pub mod Same
+pub mod OneText
+pub mod MinifiedUnder

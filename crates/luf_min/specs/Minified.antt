@@ -1,5 +1,5 @@
 -- The minified text of a source, and what is read of it. Our own rules.
-use Rattle.std.specs.Prelude.{◌≡◌, ℕ, ◌+◌, ◌<◌, Bool, false, Option, None, List, [], ◌∷◌, ◌++◌, map, length, slice_get, unwrap_or}
+use Rattle.std.specs.Prelude.{◌≡◌, ℕ, ◌+◌, false, None, List, [], ◌∷◌, ◌++◌, map, length, unwrap_or}
 use Rattle.luf_lex.specs.Word.{word_spelling}
 use Rattle.luf_lex.specs.Sign.{sign_spelling}
 use Rattle.luf_lex.specs.Tokens.{toks_of}

@@ -2,6 +2,7 @@
 #![tactic(auto)]
 
 mod item;
+mod laws;
 mod lists;
 mod spelling;
 mod starts;
@@ -9,4 +10,5 @@ mod text;
 mod walk;
 mod writing;
 
+pub use laws::{minified_exists, minified_is_same, one_minified};
 pub use writing::minify;

@@ -22,7 +22,7 @@ use Rattle.luf_scope.specs.Occurrences.{Holder, span_of, body_of, span_of_body, 
 use Rattle.luf_scope.specs.declared.occurrence.Occurrence.{Occurrence}
 use Rattle.luf_scope.specs.declared.occurrence.Occurrence.TheVariants as occurrence
 use Rattle.luf_scope.specs.declared.occurrence.Occurrence.TheVariants.{Local, LocalFunction, Parameter, ImplicitSelf, LoopVariable, Reads, Assigns, Varargs, Function, Loop, Label, Goto, Break}
-use Rattle.luf_scope.proofs.Places.{body_at, declared_on, names_on, parameters_on, path_on, method_on, semicolon_on, stat_on, stats_on}
+use Rattle.luf_scope.proofs.Places.{body_at, declared_on, names_on, parameters_on, path_on, method_on, semicolon_on}
 use Rattle.luf_resolved.proofs.Ranking.{Sound}
 use Rattle.luf_resolved.proofs.LocalEnds.{is_local, OneEnd, Ends, Names, nothing, wider, looser, joins, silent_alone, no_names, name_first, names_from, local_round, function_round}
 

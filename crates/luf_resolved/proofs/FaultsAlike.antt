@@ -1,22 +1,20 @@
 -- Of occurrences and the same by ranks, where the tokens are spelled alike: there is a scope fault in both or in neither.
-use Rattle.std.proofs.Common.{◌≡◌, ℕ, not, ◌&&◌, ◌||◌, Bool, true, false, cond, ◌⊎◌, inl, inr, Option, Some, None, List, [], ◌∷◌, All, map, is_none, slice_get, nat_le, nat_lt, nat_eq, bytes_eq, codes, ap, refl, sym, subst, ◌∙◌, eq-eqb, ne_eqb}
+use Rattle.std.proofs.Common.{◌≡◌, ℕ, not, ◌&&◌, ◌||◌, Bool, true, false, cond, ◌⊎◌, inl, inr, Option, Some, None, List, [], All, is_none, slice_get, nat_le, nat_lt, nat_eq, bytes_eq, codes, ap, refl, sym, subst, ◌∙◌, eq-eqb, ne_eqb}
 use Rattle.std.specs.List.{filter_map, list_any}
 use Rattle.std.specs.Option.{option_map_or, option_and_then, option_eq}
 use Rattle.std.proofs.lemmas.Bool.{cases_eq}
 use Rattle.luf_lex.specs.declared.token.Tok.{Tok}
 use Rattle.luf_bare.specs.Rank.{rank}
 use Rattle.luf_scope.specs.Local.{Spelling, LocalVariable, FunctionAt, is_active, locals_of, meaning, functions_of, function_of}
-use Rattle.luf_scope.specs.Jump.{LabelAt, GotoAt, labels_of, gotos_of, is_seen, target}
+use Rattle.luf_scope.specs.Jump.{LabelAt, GotoAt, labels_of, is_seen, target}
 use Rattle.luf_scope.specs.Fault.{is_constant, unknown_attribute, closes_before, second_close, constant_assigned, varargs_outside, label_twice, without_label, enters, into_scope, loops_round, break_outside, name_faults, jump_faults, first_fault, first_of, scope_fault}
 use Rattle.luf_scope.specs.Order.{from_of}
 use Rattle.luf_scope.specs.declared.binder.BinderKind.{BinderKind}
 use Rattle.luf_scope.specs.declared.fault.ScopeBad.{ScopeBad}
-use Rattle.luf_scope.specs.declared.fault.ScopeWhat.{ScopeWhat}
-use Rattle.luf_scope.specs.declared.fault.ScopeWhat.TheVariants.{UnknownAttribute, TwoClose, ConstAssign, VarargOutside, LabelTwice, NoLabel, JumpIntoScope, BreakOutside}
 use Rattle.luf_scope.specs.declared.occurrence.Occurrence.{Occurrence}
 use Rattle.luf_scope.specs.declared.occurrence.Occurrence.TheVariants.{Local, Assigns, Varargs, Loop, Break}
 use Rattle.luf_resolved.proofs.Paired.{Paired, PairedOption, Any, nothing, more, neither, both, joined, filtered, mapped, paired_with, paired_option, same_any}
-use Rattle.luf_resolved.proofs.Ranking.{Solid, Sound, ranked_occurrence, Ranked, RankedOccurrence}
+use Rattle.luf_resolved.proofs.Ranking.{Solid, Sound, ranked_occurrence, Ranked}
 use Rattle.luf_resolved.proofs.RankOrder.{before_alike, reached_alike}
 use Rattle.luf_resolved.proofs.LocalEnds.{is_local, OneEnd}
 use Rattle.luf_resolved.proofs.MeaningsAlike.{RankedLocal, RankedFunction, RankedLabel, RankedGoto, NumberedAlike, innermost_alike, locals_alike, functions_alike, labels_alike, gotos_alike, holder_alike, meaning_alike}

@@ -1,5 +1,5 @@
 -- A text that is written of a chunk without scope faults has none, as it is read.
-use Rattle.std.proofs.Common.{◌≡◌, ℕ, None, List, [], ◌∷◌, All, length, map, ap, sym, ◌∙◌}
+use Rattle.std.proofs.Common.{◌≡◌, ℕ, List, [], All, length, map, ap, ◌∙◌}
 use Rattle.std.specs.Prelude.{unwrap_or}
 use Rattle.std.specs.Option.{option_map}
 use Rattle.std.proofs.lemmas.List.Elements.{All-nil, All-cons}
@@ -9,7 +9,7 @@ use Rattle.luf_tree.specs.Grammar.{IsChunk}
 use Rattle.luf_tree.specs.SyntaxOf.{syntax_of}
 use Rattle.luf_bare.specs.Dropped.{dropped_block}
 use Rattle.luf_bare.specs.Rank.{rank, ranked}
-use Rattle.luf_bare.specs.ReadBack.{SpelledToken, TextWord, token_of, IsReadBack, spelled_at, word_at}
+use Rattle.luf_bare.specs.ReadBack.{SpelledToken, token_of, spelled_at, word_at}
 use Rattle.luf_bare.proofs.RankedLaws.{ranked_again}
 use Rattle.luf_scope.specs.Fault.{scope_fault}
 use Rattle.luf_scope.specs.Local.{Spelling}
