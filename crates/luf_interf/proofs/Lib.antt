@@ -37,3 +37,4 @@ pub mod ScopesRead
 pub mod ReadBackwards
 pub mod LocalsNamed
 pub mod Told
+pub mod GivenNames

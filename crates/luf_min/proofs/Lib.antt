@@ -1,7 +1,16 @@
 pub mod FirstByte
 pub mod TokensCut
 pub mod TextAgain
+pub mod Added
+pub mod ListedLaws
+pub mod StatementLaws
+pub mod EachSound
+pub mod PairedWritten
+pub mod ItemsWithin
+pub mod ItemsSpelled
 pub mod NewSpelling
+pub mod PiecesWithin
+pub mod TextLemmas
 pub mod SpelledTokens
 pub mod Same
 pub mod OneText
