@@ -8,7 +8,6 @@ mod list;
 mod minify;
 mod refusal;
 mod source;
-mod text;
 
 pub use check::check_bytes;
 pub use laws::{
