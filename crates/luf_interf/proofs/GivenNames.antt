@@ -1,5 +1,5 @@
 -- What holds of each name of a list of marks holds of the one at a token.
-use Rattle.std.proofs.Common.{◌≡◌, ℕ, Bool, true, false, Option, Some, None, cond, List, [], ◌∷◌, IfSome}
+use Rattle.std.proofs.Common.{ℕ, Bool, true, false, Option, Some, cond, List, [], ◌∷◌, IfSome}
 use Rattle.std.specs.Prelude.{nat_eq}
 use Rattle.std.specs.List.{All}
 use Rattle.std.proofs.lemmas.List.Elements.{All-head, All-tail}

@@ -1,5 +1,5 @@
 -- Of the words that are written of a program, those that are its own are no `;`: each `;` is added.
-use Rattle.std.proofs.Common.{◌≡◌, ℕ, ◌<◌, ◌⊎◌, inl, inr, Bool, true, false, Option, List, [], ◌∷◌, ◌++◌, refl, sym, ap, ◌∙◌, arith}
+use Rattle.std.proofs.Common.{◌≡◌, ℕ, ◌<◌, ◌⊎◌, inl, inr, Bool, true, false, Option, List, ◌++◌, refl, sym, ap, ◌∙◌, arith}
 use Rattle.luf_lex.specs.declared.token.Tok.{Tok}
 use Rattle.luf_lex.specs.declared.token.Tok.TheVariants as tok
 use Rattle.luf_lex.specs.declared.token.Sign as token_sign
@@ -8,12 +8,9 @@ use Rattle.luf_tree.specs.Operator.{binary_precedence, is_unary, sign_precedence
 use Rattle.std.proofs.lemmas.Bool.{false≢true}
 use Rattle.luf_tree.specs.Syntax as syntax
 use Rattle.luf_bare.specs.Bare.{Bare}
+use Rattle.luf_bare.proofs.EachWritten.{Each, all_none, all_more}
 use Rattle.luf_bare.specs.Texts as t
 use Rattle.luf_bare.specs.Texts.{WritesNames, WritesParams, WritesAttribute, WritesDeclared, WritesPath, WritesMethod, WritesSemicolon, WritesExpr, WritesSteps, WritesOperand, WritesSimple, WritesPrefix, WritesVariable, WritesCall, WritesParen, WritesHead, WritesSuffixes, WritesSuffix, WritesArgs, WritesExprs, WritesTable, WritesFields, WritesField, WritesFuncBody, WritesBlock, WritesStats, WritesReturn, WritesStat, WritesTargets, WritesArm, WritesArms, WritesElse, WritesForStep}
-
-pub data Each {X : Type 0} (Fits : X → Type 0) : List X → Type 0 where
-  all_none : Each Fits []
-  all_more : {x : X} {xs : List X} → Fits x → Each Fits xs → Each Fits (x ∷ xs)
 
 each_append : {X : Type 0} {Fits : X → Type 0} {xs ys : List X} → Each Fits xs → Each Fits ys → Each Fits (xs ++ ys)
 each_append all_none more = more

@@ -16,7 +16,8 @@ use Rattle.luf_resolved.proofs.Paired.{Paired, nothing, more}
 use Rattle.luf_min.specs.declared.item.Item.{Item}
 use Rattle.luf_min.specs.declared.item.Item.TheVariants.{Token}
 use Rattle.luf_min.specs.inner.Items.{kind_of, item_of, added_items, never_trails, never_encloses, items_in_block, IsWithin}
-use Rattle.luf_min.proofs.EachSound.{Each, all_none, all_more, is_semicolon, Sound, sound_block}
+use Rattle.luf_bare.proofs.EachWritten.{Each, all_none, all_more}
+use Rattle.luf_min.proofs.EachSound.{is_semicolon, Sound, sound_block}
 use Rattle.luf_min.proofs.PairedWritten.{paired_block}
 
 -- a word of a text by where it is from: a token of the source, or one that is put or added
