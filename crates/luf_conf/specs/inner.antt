@@ -1,0 +1,2 @@
+-- What only private functions cite: options with one more member.
+pub mod Member
