@@ -1,5 +1,5 @@
 -- A text tells one set of options, or is refused for one cause.
-use Rattle.std.proofs.Common.{◌≡◌, ◌≢◌, ◌⊎◌, ℕ, Bool, List, Result, Ok, Err, IfOk, IfErr, pos, refl, sym, ap, subst, ◌∙◌, arith, inl, inr}
+use Rattle.std.proofs.Common.{◌≡◌, ◌≢◌, ◌⊎◌, ℕ, Bool, List, [], Result, Ok, Err, IfOk, IfErr, pos, refl, sym, ap, subst, ◌∙◌, arith, inl, inr}
 use Rattle.std.proofs.lemmas.Option.{same_Some}
 use Rattle.toml.specs.Data.{Data, integer, string, Members}
 use Rattle.luf_quote.specs.declared.calls.CallStyle.{CallStyle}
@@ -49,13 +49,13 @@ pub one_options : (text : List ℕ) (o p : Options) → TellsOptions text o → 
 one_options text o p a b = options_once b.0 o p (subst (λ t. AreOptions t o) (one_table text a.0 b.0 a.1 b.1) a.2) b.2
 
 pub options_not_refused : (text : List ℕ) (o : Options) (e : ConfErr) → TellsOptions text o → IsRefused text e → ⊥
-options_not_refused text o _ tells (not_toml no) = no tells.0 tells.1
+options_not_refused text o _ tells (not_toml none) = none tells.0 tells.1
 options_not_refused text o _ tells (wrong_table t e is wrong) = options_not_wrong t o e (subst (λ u. AreOptions u o) (one_table text tells.0 t tells.1 is) tells.2) wrong
 
 pub one_refusal : (text : List ℕ) (e f : ConfErr) → IsRefused text e → IsRefused text f → e ≡ f
-one_refusal text _ _ (not_toml no) (not_toml other) = refl
-one_refusal text _ _ (not_toml no) (wrong_table t f is wrong) = absurd (no t is)
-one_refusal text _ _ (wrong_table t e is wrong) (not_toml no) = absurd (no t is)
+one_refusal text _ _ (not_toml none) (not_toml other) = refl
+one_refusal text _ _ (not_toml none) (wrong_table t f is wrong) = absurd (none t is)
+one_refusal text _ _ (wrong_table t e is wrong) (not_toml none) = absurd (none t is)
 one_refusal text _ _ (wrong_table t e is wrong) (wrong_table u f is' wrong') = one_first_wrong u e f (subst (λ x. IsFirstWrong x e) (one_table text t u is is') wrong) wrong'
 
 memory_or : (e : ConfErr) → (e ≡ Memory) ⊎ (e ≢ Memory)

@@ -18,9 +18,9 @@ use Rattle.luf_conf.specs.declared.error.ConfErr.{ConfErr}
 use Rattle.luf_conf.specs.declared.settings.Options.{Options}
 
 pub not_wrong : (table : Members) (o : Options) (name : List ℕ) (d : Data) (e : ConfErr) → AreOptions table o → get_member name table ≡ Some d → IsWrong name d e → ⊥
-not_wrong table o name d _ are there (unknown_key no) = no (are.known name d there)
-not_wrong table o name d _ are there (bad_value k same no) =
-    no o (subst (λ x. Sets k (unwrap_or x (usual_value k)) o) (ap (λ n. get_member n table) same ∙ there) (are.told k))
+not_wrong table o name d _ are there (unknown_key unknown) = unknown (are.known name d there)
+not_wrong table o name d _ are there (bad_value k same bad) =
+    bad o (subst (λ x. Sets k (unwrap_or x (usual_value k)) o) (ap (λ n. get_member n table) same ∙ there) (are.told k))
 
 -- the first name that is refused, behind members that tell options
 pub first_wrong : (done : List Entry) (e : Entry) (rest : List Entry) (o : Options) (cause : ConfErr) → AreOptions (members_view done) o → IsStrictlySortedBy string_cmp (keys_of (done ++ e ∷ rest))
@@ -34,9 +34,9 @@ first_wrong done e rest o cause are sorted wrong = record {
 }
 
 wrong_once : (name : List ℕ) (d : Data) (e f : ConfErr) → IsWrong name d e → IsWrong name d f → e ≡ f
-wrong_once name d _ _ (unknown_key no) (unknown_key other) = refl
-wrong_once name d _ _ (unknown_key no) (bad_value k same bad) = absurd (no (k, same))
-wrong_once name d _ _ (bad_value k same bad) (unknown_key no) = absurd (no (k, same))
+wrong_once name d _ _ (unknown_key unknown) (unknown_key other) = refl
+wrong_once name d _ _ (unknown_key unknown) (bad_value k same bad) = absurd (unknown (k, same))
+wrong_once name d _ _ (bad_value k same bad) (unknown_key unknown) = absurd (unknown (k, same))
 wrong_once name d _ _ (bad_value k same bad) (bad_value l other worse) = refl
 
 one_by : (table : Members) (e f : ConfErr) (a : IsFirstWrong table e) (b : IsFirstWrong table f) (r : Ordering) → slice_cmp nat_cmp a.name b.name ≡ r → e ≡ f

@@ -1,6 +1,6 @@
 // The keys of a file of options.
-ghost use Rattle.std.specs.Prelude.{◌≡◌, MatchOption};
-ghost use Rattle.luf_conf.specs.Settings.{IsKnown, key_name};
+ghost use Rattle.std.specs.Prelude.{◌≡◌};
+ghost use Rattle.luf_conf.specs.inner.Named.{key_named};
 
 /// A key that a file of options may have.
 #[derive(Clone, Copy, Debug, PartialEq, Eq)]
@@ -23,16 +23,23 @@ pub enum Key {
 
 /// The key of a name.
 pub(crate) fn key_of(name: &[u8]) -> Option<Key>
-    ensures { MatchOption result (IsKnown name.now → ⊥) (λ key. key_name key ≡ name.now) }
+    ensures { result ≡ key_named name.now }
 {
-    match name {
-        b"column_width" => Some(Key::ColumnWidth),
-        b"indent_type" => Some(Key::IndentType),
-        b"indent_width" => Some(Key::IndentWidth),
-        b"quote_style" => Some(Key::QuoteStyle),
-        b"call_parentheses" => Some(Key::CallParentheses),
-        b"line_endings" => Some(Key::LineEndings),
-        b"collapse_simple_statement" => Some(Key::CollapseSimpleStatement),
-        _ => None,
+    if name == b"column_width".as_slice() {
+        Some(Key::ColumnWidth)
+    } else if name == b"indent_type".as_slice() {
+        Some(Key::IndentType)
+    } else if name == b"indent_width".as_slice() {
+        Some(Key::IndentWidth)
+    } else if name == b"quote_style".as_slice() {
+        Some(Key::QuoteStyle)
+    } else if name == b"call_parentheses".as_slice() {
+        Some(Key::CallParentheses)
+    } else if name == b"line_endings".as_slice() {
+        Some(Key::LineEndings)
+    } else if name == b"collapse_simple_statement".as_slice() {
+        Some(Key::CollapseSimpleStatement)
+    } else {
+        None
     }
 }

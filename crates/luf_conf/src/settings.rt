@@ -73,14 +73,20 @@ impl Options {
                 calls: calls_of(word_of(value)?)?,
                 ..self
             }),
-            Key::LineEndings => match word_of(value)? {
-                b"Unix" => Some(self),
-                _ => None,
-            },
-            Key::CollapseSimpleStatement => match word_of(value)? {
-                b"Never" => Some(self),
-                _ => None,
-            },
+            Key::LineEndings => {
+                if word_of(value)? == b"Unix".as_slice() {
+                    Some(self)
+                } else {
+                    None
+                }
+            }
+            Key::CollapseSimpleStatement => {
+                if word_of(value)? == b"Never".as_slice() {
+                    Some(self)
+                } else {
+                    None
+                }
+            }
         }
     }
 }

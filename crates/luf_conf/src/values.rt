@@ -1,8 +1,7 @@
 // What values are read as.
-ghost use Rattle.std.specs.Prelude.{◌≡◌, ℕ, List, Bool, MatchOption};
-ghost use Rattle.luf_conf.specs.Settings.{IsNumberTo, call_name, indent_name, quote_name};
-ghost use Rattle.luf_quote.specs.declared.calls.CallStyle.{CallStyle as Calls};
-ghost use Rattle.luf_quote.specs.declared.quotes.QuoteStyle.{QuoteStyle as Quotes};
+ghost use Rattle.std.specs.Prelude.{◌≡◌, ℕ, List, MatchOption};
+ghost use Rattle.luf_conf.specs.Settings.{IsNumberTo};
+ghost use Rattle.luf_conf.specs.inner.Named.{calls_named, quotes_named, tabs_named};
 ghost use Rattle.toml.specs.Data.{string};
 ghost use Rattle.toml.specs.View.{view};
 
@@ -32,38 +31,49 @@ pub fn word_of(value: &Value) -> Option<&[u8]>
 
 /// Whether a level is written as tabs.
 pub fn tabs_of(word: &[u8]) -> Option<bool>
-    ensures { MatchOption result ((tabs : Bool) → indent_name tabs ≡ word.now → ⊥) (λ tabs. indent_name tabs ≡ word.now) }
+    ensures { result ≡ tabs_named word.now }
 {
-    match word {
-        b"Tabs" => Some(true),
-        b"Spaces" => Some(false),
-        _ => None,
+    if word == b"Tabs".as_slice() {
+        Some(true)
+    } else if word == b"Spaces".as_slice() {
+        Some(false)
+    } else {
+        None
     }
 }
 
 /// The style of quotes of a name.
 pub fn quotes_of(word: &[u8]) -> Option<QuoteStyle>
-    ensures { MatchOption result ((style : Quotes) → quote_name style ≡ word.now → ⊥) (λ style. quote_name style ≡ word.now) }
+    ensures { result ≡ quotes_named word.now }
 {
-    match word {
-        b"AutoPreferDouble" => Some(QuoteStyle::AutoPreferDouble),
-        b"AutoPreferSingle" => Some(QuoteStyle::AutoPreferSingle),
-        b"ForceDouble" => Some(QuoteStyle::ForceDouble),
-        b"ForceSingle" => Some(QuoteStyle::ForceSingle),
-        _ => None,
+    if word == b"AutoPreferDouble".as_slice() {
+        Some(QuoteStyle::AutoPreferDouble)
+    } else if word == b"AutoPreferSingle".as_slice() {
+        Some(QuoteStyle::AutoPreferSingle)
+    } else if word == b"ForceDouble".as_slice() {
+        Some(QuoteStyle::ForceDouble)
+    } else if word == b"ForceSingle".as_slice() {
+        Some(QuoteStyle::ForceSingle)
+    } else {
+        None
     }
 }
 
 /// The style of calls of a name.
 pub fn calls_of(word: &[u8]) -> Option<CallStyle>
-    ensures { MatchOption result ((style : Calls) → call_name style ≡ word.now → ⊥) (λ style. call_name style ≡ word.now) }
+    ensures { result ≡ calls_named word.now }
 {
-    match word {
-        b"Always" => Some(CallStyle::Always),
-        b"NoSingleString" => Some(CallStyle::NoSingleString),
-        b"NoSingleTable" => Some(CallStyle::NoSingleTable),
-        b"None" => Some(CallStyle::None),
-        b"Input" => Some(CallStyle::Input),
-        _ => None,
+    if word == b"Always".as_slice() {
+        Some(CallStyle::Always)
+    } else if word == b"NoSingleString".as_slice() {
+        Some(CallStyle::NoSingleString)
+    } else if word == b"NoSingleTable".as_slice() {
+        Some(CallStyle::NoSingleTable)
+    } else if word == b"None".as_slice() {
+        Some(CallStyle::None)
+    } else if word == b"Input".as_slice() {
+        Some(CallStyle::Input)
+    } else {
+        None
     }
 }
