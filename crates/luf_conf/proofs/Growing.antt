@@ -44,9 +44,9 @@ told_by k done e o p Equal at new told more =
     get_joined (key_name k) done (e ∷ []) ∙ rw (at, ap (λ n. get_member n (members_view done)) name ∙ new) refl in
     rw got (subst (λ x. Sets x (view e.1) p) (sym (one_key k more.key (name ∙ sym more.named))) more.said)
 
-pub with_member : (done : List Entry) (e : Entry) (o p : Options) → AreOptions (members_view done) o → get_member (string_bytes e.0) (members_view done) ≡ None → IsWithMember (string_bytes e.0) (view e.1) o p
+pub grown : (done : List Entry) (e : Entry) (o p : Options) → AreOptions (members_view done) o → get_member (string_bytes e.0) (members_view done) ≡ None → IsWithMember (string_bytes e.0) (view e.1) o p
     → AreOptions (members_view (done ++ e ∷ [])) p
-with_member done e o p are new more = record {
+grown done e o p are new more = record {
   known = λ name d found. known_by name e d (get_member name (members_view done)) (slice_cmp nat_cmp name (string_bytes e.0)) refl (are.known name) (more.key, more.named) (sym (get_joined name done (e ∷ [])) ∙ found);
   told = λ k. told_by k done e o p (slice_cmp nat_cmp (key_name k) (string_bytes e.0)) refl new (are.told k) more;
 }

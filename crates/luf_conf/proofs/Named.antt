@@ -53,12 +53,6 @@ tabs_again : (tabs : Bool) → tabs_named (indent_name tabs) ≡ Some tabs
 tabs_again true = refl
 tabs_again false = refl
 
-pub tabs_found : (word : List ℕ) (tabs : Bool) → Some tabs ≡ tabs_named word → indent_name tabs ≡ word
-tabs_found word tabs = found indent_name word _ tabs (tried indent_name word true _ (tried indent_name word false None tt))
-
-pub no_tabs : (word : List ℕ) (tabs : Bool) → None ≡ tabs_named word → indent_name tabs ≡ word → ⊥
-no_tabs word tabs none same = none-some tabs (none ∙ ap tabs_named (sym same) ∙ tabs_again tabs)
-
 pub one_indent : (x y : Bool) → indent_name x ≡ indent_name y → x ≡ y
 one_indent x y same = same_Some x y (sym (tabs_again x) ∙ ap tabs_named same ∙ tabs_again y)
 
@@ -69,14 +63,6 @@ quotes_again quotes.AutoPreferDouble = refl
 quotes_again quotes.AutoPreferSingle = refl
 quotes_again quotes.ForceDouble = refl
 quotes_again quotes.ForceSingle = refl
-
-pub quotes_found : (word : List ℕ) (style : QuoteStyle) → Some style ≡ quotes_named word → quote_name style ≡ word
-quotes_found word style =
-    found quote_name word _ style (tried quote_name word quotes.AutoPreferDouble _ (tried quote_name word quotes.AutoPreferSingle _
-    (tried quote_name word quotes.ForceDouble _ (tried quote_name word quotes.ForceSingle None tt))))
-
-pub no_quotes : (word : List ℕ) (style : QuoteStyle) → None ≡ quotes_named word → quote_name style ≡ word → ⊥
-no_quotes word style none same = none-some style (none ∙ ap quotes_named (sym same) ∙ quotes_again style)
 
 pub one_quote_style : (x y : QuoteStyle) → quote_name x ≡ quote_name y → x ≡ y
 one_quote_style x y same = same_Some x y (sym (quotes_again x) ∙ ap quotes_named same ∙ quotes_again y)
@@ -89,14 +75,6 @@ calls_again calls.NoSingleString = refl
 calls_again calls.NoSingleTable = refl
 calls_again calls.None = refl
 calls_again calls.Input = refl
-
-pub calls_found : (word : List ℕ) (style : CallStyle) → Some style ≡ calls_named word → call_name style ≡ word
-calls_found word style =
-    found call_name word _ style (tried call_name word calls.Always _ (tried call_name word calls.NoSingleString _
-    (tried call_name word calls.NoSingleTable _ (tried call_name word calls.None _ (tried call_name word calls.Input None tt)))))
-
-pub no_calls : (word : List ℕ) (style : CallStyle) → None ≡ calls_named word → call_name style ≡ word → ⊥
-no_calls word style none same = none-some style (none ∙ ap calls_named (sym same) ∙ calls_again style)
 
 pub one_call_style : (x y : CallStyle) → call_name x ≡ call_name y → x ≡ y
 one_call_style x y same = same_Some x y (sym (calls_again x) ∙ ap calls_named same ∙ calls_again y)

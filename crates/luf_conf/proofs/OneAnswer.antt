@@ -80,3 +80,12 @@ exact text (Err f) ok refused e is =
       | inl memory ↦ inr (ap Err memory)
       | inr other ↦ inl (ap Err (one_refusal text f e (refused other) is))
     ]
+
+-- what is told of the table of a text, is told of the text
+pub tells_by : (text : List ℕ) (table : Members) (r : Result Options ConfErr) → IsTable text table → IfOk r (AreOptions table) → IfOk r (TellsOptions text)
+tells_by text table (Ok o) is told = (table, is, told)
+tells_by text table (Err e) is told = tt
+
+pub refused_by : (text : List ℕ) (table : Members) (r : Result Options ConfErr) → IsTable text table → IfErr r (λ e. e ≢ Memory → IsFirstWrong table e) → IfErr r (λ e. e ≢ Memory → IsRefused text e)
+refused_by text table (Ok o) is refused = tt
+refused_by text table (Err e) is refused = λ other. wrong_table table e is (refused other)
