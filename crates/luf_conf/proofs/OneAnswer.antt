@@ -30,14 +30,14 @@ same_parts o p columns tabs indent quotes calls =
     ap (λ x. made x o.tabs o.indent_width o.quotes o.calls) columns ∙ ap (λ x. made p.column_width x o.indent_width o.quotes o.calls) tabs
     ∙ ap (λ x. made p.column_width p.tabs x o.quotes o.calls) indent ∙ ap (λ x. made p.column_width p.tabs p.indent_width x o.calls) quotes ∙ ap (λ x. made p.column_width p.tabs p.indent_width p.quotes x) calls
 
-options_once : (table : Members) (o p : Options) → AreOptions table o → AreOptions table p → o ≡ p
+pub options_once : (table : Members) (o p : Options) → AreOptions table o → AreOptions table p → o ≡ p
 options_once table o p a b =
     same_parts o p (ap number_in (sym (a.told key.ColumnWidth).0 ∙ (b.told key.ColumnWidth).0)) (one_indent _ _ (ap text_in (sym (a.told key.IndentType) ∙ b.told key.IndentType)))
     (ap number_in (sym (a.told key.IndentWidth).0 ∙ (b.told key.IndentWidth).0)) (one_quote_style _ _ (ap text_in (sym (a.told key.QuoteStyle) ∙ b.told key.QuoteStyle)))
     (one_call_style _ _ (ap text_in (sym (a.told key.CallParentheses) ∙ b.told key.CallParentheses)))
 
-pub in_range : (table : Members) (o : Options) → AreOptions table o → AreInRange o
-in_range table o are =
+pub options_in_range : (table : Members) (o : Options) → AreOptions table o → AreInRange o
+options_in_range table o are =
     let columns = are.told key.ColumnWidth in
     let indent = are.told key.IndentWidth in
     (columns.1, columns.2, indent.1, indent.2)

@@ -22,7 +22,7 @@ loop-name-preserved c =
     let parted : c.args.table.now.entries ≡ done ++ e ∷ rest = whole ∙ ap (λ t. done ++ t) next in
     let sorted = subst (λ t. IsStrictlySortedBy string_cmp (keys_of t)) parted c.iter-name-items.ensures.ordered in
     let more = subst (λ n. IsWithMember n (view e.1) c.loop-name.options c.in-Ok.more) c.as_bytes.ensures.value c.in-Ok.ensures.ok in
-    (done ++ e ∷ [], (parted ∙ sym (append_assoc done (e ∷ []) rest), grown done e c.loop-name.options c.in-Ok.more told (fresh done e rest sorted) more))
+    (done ++ e ∷ [], parted ∙ sym (append_assoc done (e ∷ []) rest), grown done e c.loop-name.options c.in-Ok.more told (fresh done e rest sorted) more)
 
 pub returns-in-Err-clause-refused : goal.returns-in-Err-clause-refused
 returns-in-Err-clause-refused c =
