@@ -1,5 +1,5 @@
 -- What is refused in a table, and that a table that tells options is not.
-use Rattle.std.proofs.Common.{◌≡◌, ◌≢◌, ℕ, List, ◌∷◌, ◌++◌, Some, Less, Equal, Greater, Ordering, string_bytes, nat_cmp, refl, sym, ap, subst, ◌∙◌}
+use Rattle.std.proofs.Common.{◌≡◌, ℕ, List, ◌∷◌, ◌++◌, Some, Less, Equal, Greater, Ordering, string_bytes, nat_cmp, refl, sym, ap, subst, ◌∙◌}
 use Rattle.std.proofs.lemmas.Cmp.{nat_list_cmp_total}
 use Rattle.std.proofs.lemmas.Option.{same_Some}
 use Rattle.std.specs.Cmp.Lexicographic.{slice_cmp}
@@ -13,7 +13,7 @@ use Rattle.toml.specs.Data.{Data, Members, get_member}
 use Rattle.toml.specs.View.{members_view, view}
 use Rattle.luf_conf.proofs.Entries.{same_bytes, found_before, found_here}
 use Rattle.luf_conf.specs.Answers.{AreOptions, IsFirstWrong, IsWrong, unknown_key, bad_value}
-use Rattle.luf_conf.specs.Settings.{Sets, key_name, usual_value}
+use Rattle.luf_conf.specs.Settings.{Sets, usual_value}
 use Rattle.luf_conf.specs.declared.error.ConfErr.{ConfErr}
 use Rattle.luf_conf.specs.declared.settings.Options.{Options}
 
