@@ -1,0 +1,3 @@
+-- The choices of a style.
+pub mod Chosen
+pub mod Parens
