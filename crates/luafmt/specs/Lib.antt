@@ -1,4 +1,6 @@
 pub mod Code
 pub mod Command
+pub mod Counts
 pub mod Line
 pub mod Outcome
+pub mod Plan
