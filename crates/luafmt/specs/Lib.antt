@@ -4,3 +4,4 @@ pub mod Counts
 pub mod Line
 pub mod Outcome
 pub mod Plan
+pub mod inner
