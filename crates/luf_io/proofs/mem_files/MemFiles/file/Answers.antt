@@ -1,8 +1,5 @@
-use Rattle.std.proofs.Common.{rules, ◌≡◌, ◌⊎◌, inl, inr, ◌<◌, ◌≤◌, ℕ, List, ◌++◌, length, Contains, Some, None, refl, sym, ap, ◌∙◌, arith}
-use Rattle.std.specs.FinMap.{get, insert}
-use Rattle.luf_io.specs.Count.{next_count}
-use Rattle.luf_io.specs.Files.{FileMap}
-use Rattle.luf_io.specs.MemFiles.{FilesState, files_in}
+use Rattle.std.proofs.Common.{rules, Some, sym, ap, ◌∙◌}
+use Rattle.luf_io.specs.MemFiles.{FilesState}
 use Rattle.luf_io.proofs.FileMaps.{file_there, file_missing}
 use Rattle.luf_io.proofs.mem_files.MemFiles.file.Goals as goal
 

@@ -1,7 +1,6 @@
-use Rattle.std.proofs.Common.{rules, ◌≡◌, ◌⊎◌, inl, inr, ◌<◌, ◌≤◌, ℕ, List, ◌++◌, length, Contains, Some, None, refl, sym, ap, ◌∙◌, arith}
-use Rattle.std.specs.FinMap.{get, insert}
+use Rattle.std.proofs.Common.{rules, ◌≡◌, inl, inr, Contains, Some, None, refl, sym, ap}
+use Rattle.std.specs.FinMap.{get}
 use Rattle.luf_io.specs.Count.{next_count}
-use Rattle.luf_io.specs.Files.{FileMap}
 use Rattle.luf_io.specs.MemFiles.{FilesState, files_in}
 use Rattle.luf_io.proofs.FileMaps.{file_there, file_missing, not_both, kept_file}
 use Rattle.luf_io.proofs.mem_files.MemFilesFiles.fetch.Goals as goal
