@@ -41,11 +41,7 @@ impl Model for MemFiles {
 
 impl MemFiles {
     /// These files. The calls whose numbers are in `fails` fail.
-    pub fn new(
-        _alloc: Global,
-        files: BTreeMap<String, Vec<u8>>,
-        fails: Vec<u64>,
-    ) -> MemFiles
+    pub fn new(_alloc: Global, files: BTreeMap<String, Vec<u8>>, fails: Vec<u64>) -> MemFiles
         ensures { result
             ≡ record { files = files_in files.entries; fails = fails.items; calls = 0; fetches = 0; replaces = 0 } }
     {

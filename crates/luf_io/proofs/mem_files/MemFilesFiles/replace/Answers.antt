@@ -16,8 +16,8 @@ returns-in-Ok-insert-clause-ok c =
     let entries : c.insert.new.self.entries ≡ insert_entry string_cmp c.self.inside.files.entries c.in-Ok.key c.in-Ok-from_slice.value = c.in-Ok-insert.ensures.entries in
     let calls : c.saturating_add-self-inside.result ≡ next_count c.args.self.now.calls = search rules in
     let after : files_in c.insert.new.self.entries ≡ insert c.args.self.now.files c.args.name.now c.args.bytes.now =
-        ap files_in entries
-        ∙ files_insert c.in-Ok.key c.in-Ok-from_slice.value c.self.inside.files.entries
-        ∙ ap (λ (files : FileMap). insert files (string_bytes c.in-Ok.key) c.in-Ok-from_slice.value.items) before
-        ∙ ap₂ (insert c.args.self.now.files) key value in
+    ap files_in entries
+    ∙ files_insert c.in-Ok.key c.in-Ok-from_slice.value c.self.inside.files.entries
+    ∙ ap (λ (files : FileMap). insert files (string_bytes c.in-Ok.key) c.in-Ok-from_slice.value.items) before
+    ∙ ap₂ (insert c.args.self.now.files) key value in
     same_state after (ap (λ (s : FilesState). s.fails) c.self.view_is) calls (ap (λ (s : FilesState). s.fetches) c.self.view_is) (ap (λ (s : FilesState). s.replaces) c.self.view_is)
