@@ -121,7 +121,11 @@ fn new_file<R: System>(system: &R, alloc: Global, target: &str) -> IoResult<(Str
 }
 
 // Gives a new file these permissions and these bytes.
-fn fill<O: OpenFile + Write + Drop>(mut file: O, permissions: Permissions, bytes: &[u8]) -> IoResult<()> {
+fn fill<O: OpenFile + Write + Drop>(
+    mut file: O,
+    permissions: Permissions,
+    bytes: &[u8],
+) -> IoResult<()> {
     file.set_permissions(permissions)?;
     file.write_all(bytes)
 }

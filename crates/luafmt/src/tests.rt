@@ -39,13 +39,21 @@ fn files_failing(alloc: Global, call: u64) -> Result<MemFiles, Fail> {
         ("--help", "z = 3"),
         ("a b\u{e9}", "("),
     ] {
-        held.insert(String::from_str(alloc, name)?, text.as_bytes().to_vec(alloc)?)?;
+        held.insert(
+            String::from_str(alloc, name)?,
+            text.as_bytes().to_vec(alloc)?,
+        )?;
     }
     Ok(MemFiles::new(alloc, held, vec![in alloc; call]?))
 }
 
 // What a run over objects in memory answers and writes.
-fn ran(alloc: Global, line: &str, source: &str, call: u64) -> Result<(Status, MemSink, MemSink), Fail> {
+fn ran(
+    alloc: Global,
+    line: &str,
+    source: &str,
+    call: u64,
+) -> Result<(Status, MemSink, MemSink), Fail> {
     let words = words_of(alloc, line)?;
     let mut files = files_failing(alloc, call)?;
     let mut input = MemSource::new(source.as_bytes().to_vec(alloc)?, 3, Vec::new(alloc));
@@ -178,19 +186,67 @@ fn files(rt: HostRuntime) -> Result<(), Fail> {
         ("minify|ok.lua", 0, Status::Done, "x=1", ""),
         ("check|ok.lua|ok.lua", 0, Status::Done, "", ""),
         ("check|a.lua|b.lua", 0, Status::Refused, "", both),
-        ("check|a.lua|ok.lua|b.lua|ok.lua", 0, Status::Refused, "", both),
-        ("check|a b\u{e9}", 0, Status::Refused, "", "a b\u{e9}:1:2: Syntax\n"),
+        (
+            "check|a.lua|ok.lua|b.lua|ok.lua",
+            0,
+            Status::Refused,
+            "",
+            both,
+        ),
+        (
+            "check|a b\u{e9}",
+            0,
+            Status::Refused,
+            "",
+            "a b\u{e9}:1:2: Syntax\n",
+        ),
         ("minify|-", 0, Status::Done, "y=2", ""),
         ("minify|--|--help", 0, Status::Done, "z=3", ""),
-        ("minify|ok.lua|ok.lua", 0, Status::Usage, "", "luafmt: Usage\n"),
-        ("check|--none|ok.lua", 0, Status::Usage, "", "luafmt: Usage\n"),
-        ("list|ok.lua", 0, Status::Refused, "", "ok.lua:0: BadHeader\n"),
+        (
+            "minify|ok.lua|ok.lua",
+            0,
+            Status::Usage,
+            "",
+            "luafmt: Usage\n",
+        ),
+        (
+            "check|--none|ok.lua",
+            0,
+            Status::Usage,
+            "",
+            "luafmt: Usage\n",
+        ),
+        (
+            "list|ok.lua",
+            0,
+            Status::Refused,
+            "",
+            "ok.lua:0: BadHeader\n",
+        ),
         ("check|", 0, Status::ReadFault, "", ""),
         ("check|ok.lua|no.lua|a.lua", 0, Status::ReadFault, "", ""),
-        ("check|a.lua|no.lua|b.lua", 0, Status::ReadFault, "", "a.lua:1:1: BreakOutside\n"),
+        (
+            "check|a.lua|no.lua|b.lua",
+            0,
+            Status::ReadFault,
+            "",
+            "a.lua:1:1: BreakOutside\n",
+        ),
         ("check|a.lua|ok.lua|b.lua", 1, Status::ReadFault, "", ""),
-        ("check|a.lua|ok.lua|b.lua", 2, Status::ReadFault, "", "a.lua:1:1: BreakOutside\n"),
-        ("check|a.lua|ok.lua|b.lua", 3, Status::ReadFault, "", "a.lua:1:1: BreakOutside\n"),
+        (
+            "check|a.lua|ok.lua|b.lua",
+            2,
+            Status::ReadFault,
+            "",
+            "a.lua:1:1: BreakOutside\n",
+        ),
+        (
+            "check|a.lua|ok.lua|b.lua",
+            3,
+            Status::ReadFault,
+            "",
+            "a.lua:1:1: BreakOutside\n",
+        ),
         ("check|a.lua|ok.lua|b.lua", 4, Status::Refused, "", both),
     ] {
         let (result, out, errs) = ran(alloc, line, "", call)?;
@@ -264,7 +320,10 @@ fn files_of_the_system(rt: HostRuntime) -> Result<(), Fail> {
     symlink(&rt, "luafmt_test.lua", "luafmt_test_link.lua")?;
     let before = fs::metadata(&rt, "luafmt_test.lua")?.permissions();
     for (most, wanted) in [(5, Ok(true)), (4, Ok(false))] {
-        assert_eq!(rt; files.fetch(alloc, "luafmt_test_link.lua", most, &mut into), wanted);
+        assert_eq!(rt;
+            files.fetch(alloc, "luafmt_test_link.lua", most, &mut into),
+            wanted
+        );
         assert_eq!(rt; into.as_slice(), b"x = 1".as_slice());
     }
     let replaced = files.replace(alloc, "luafmt_test_link.lua", b"y = 2");
