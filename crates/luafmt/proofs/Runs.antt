@@ -12,8 +12,7 @@ use Rattle.luf_work.proofs.RefusalLemmas.{accepted_not_refused, source_not_refus
 use Rattle.luf_work.proofs.ListLemmas.{list_accepted_not_refused}
 use Rattle.luafmt.specs.Command.{command_word, TakesFiles, Accepts, Writes, Refuses}
 use Rattle.luafmt.specs.Counts.{Counts, CouldNotRead, of_input, of_fetch, of_missing, CouldNotWrite, of_out, of_errs, ReadsAreCalm, WritesAreCalm, NoneRose}
-use Rattle.luafmt.specs.Outcome.{Origin, input, file, name_of, Holds, IsTold, Turn, Comes, refused, done, InTurn, none, turn, origins, or_next, status_of, out_of, errs_of, Outcome, outcome_of, IsOutcome, IsBegun, AreTold, IsMissingAtTurn, RanThrough}
-use Rattle.luafmt.specs.Outcome as outcome
+use Rattle.luafmt.specs.Outcome.{Origin, input, file, name_of, Holds, IsTold, Turn, Comes, refused, done, InTurn, no_more, one_more, origins, or_next, status_of, out_of, errs_of, Outcome, outcome_of, IsOutcome, of_usage, of_turns, IsBegun, begun_turns, AreTold, IsMissingAtTurn, RanThrough}
 use Rattle.luafmt.specs.Plan.{Plan, Mean, AreNoCommand, files_in}
 use Rattle.luafmt.specs.declared.command.Command.{Command}
 use Rattle.luafmt.specs.declared.command.Command.TheVariants as command
@@ -61,8 +60,8 @@ next_status s next (inl e) other = subst (λ (x : Status). DoneOrRefused (or_nex
 next_status s next (inr e) other = subst (λ (x : Status). DoneOrRefused (or_next x next)) (sym e) (inr refl)
 
 turns_status : (command : Command) (left : Option (List ℕ)) (told after : Option FileMap) (sources : List Origin) (turns : List Turn) → InTurn command left told sources turns after → DoneOrRefused (status_of turns)
-turns_status command left told after sources turns (none _ _ _) = inl refl
-turns_status command left told after sources turns (turn _ _ _ _ origin later contents t others holds comes rest) =
+turns_status command left told after sources turns (no_more _ _ _) = inl refl
+turns_status command left told after sources turns (one_more _ _ _ _ origin later contents t others holds comes rest) =
     next_status t.status (status_of others) (turn_status command (name_of origin) contents t comes) (turns_status command left _ after later others rest)
 
 through_status : (command : Command) (left : Option (List ℕ)) (sources : List Origin) (before after : World) (s : Status) → Through command left sources before after s → DoneOrRefused s
@@ -110,16 +109,16 @@ one_contents left told (file name) a b is h k = let x = told_of told is in same_
 -- turns of the same sources, over the same files, have the same status
 same_status : (c : Command) (left : Option (List ℕ)) (told one other after last : Option FileMap) (sources : List Origin) (turns others : List Turn) → one ≡ told → other ≡ told → All (IsTold left told) sources
     → InTurn c left one sources turns after → InTurn c left other sources others last → status_of turns ≡ status_of others
-same_status c left told one other after last sources turns others e f all (none _ _ _) (none _ _ _) = refl
-same_status c left told one other after last sources turns others e f all (turn _ _ _ _ origin later contents t ts holds comes rest) (turn _ _ _ _ _ _ again u us holds_too comes_too rest_too) =
+same_status c left told one other after last sources turns others e f all (no_more _ _ _) (no_more _ _ _) = refl
+same_status c left told one other after last sources turns others e f all (one_more _ _ _ _ origin later contents t ts holds comes rest) (one_more _ _ _ _ _ _ again u us holds_too comes_too rest_too) =
     let same : contents ≡ again = one_contents left told origin contents again all.0 (subst (λ (files : Option FileMap). Holds left files origin contents) e holds) (subst (λ (files : Option FileMap). Holds left files origin again) f holds_too) in
     let status : t.status ≡ u.status = one_status c (name_of origin) again t u (subst (λ (bytes : List ℕ). Comes c (name_of origin) bytes t) same comes) comes_too in
     ap₂ or_next status (same_status c left told _ _ after last later ts us (turn_kept c origin contents t one comes ∙ e) (turn_kept c origin again u other comes_too ∙ f) all.1 rest rest_too)
 
 -- each source of turns has contents
 there : (c : Command) (left : Option (List ℕ)) (told one after : Option FileMap) (first later : List Origin) (origin : Origin) (turns : List Turn) → one ≡ told → InTurn c left one (first ++ origin ∷ later) turns after → (contents : List ℕ) × Holds left told origin contents
-there c left told one after [] later origin turns e (turn _ _ _ _ _ _ contents t ts holds comes rest) = (contents, subst (λ (files : Option FileMap). Holds left files origin contents) e holds)
-there c left told one after (x ∷ first) later origin turns e (turn _ _ _ _ _ _ contents t ts holds comes rest) = there c left told _ after first later origin ts (turn_kept c x contents t one comes ∙ e) rest
+there c left told one after [] later origin turns e (one_more _ _ _ _ _ _ contents t ts holds comes rest) = (contents, subst (λ (files : Option FileMap). Holds left files origin contents) e holds)
+there c left told one after (x ∷ first) later origin turns e (one_more _ _ _ _ _ _ contents t ts holds comes rest) = there c left told _ after first later origin ts (turn_kept c x contents t one comes ∙ e) rest
 
 not_missing : (left : Option (List ℕ)) (told : Option FileMap) (name contents : List ℕ) → Holds left told (file name) contents → IsMissing told name → ⊥
 not_missing left told name contents holds missing = let found = holds missing.0 missing.1 in let none = missing.2 in absurd cc
@@ -132,7 +131,7 @@ EndedBy plan left before after s = Ended plan.command left (origins plan.files) 
 
 pub outcome_ended : (words : List (List ℕ)) (left : Option (List ℕ)) (plan : Plan) (before after : World) (s : Status) → Mean words plan → EndedBy plan left before after s → RanThrough s
     → (w : Outcome) × IsOutcome words left before.told w × (s ≡ w.status) × Appends before.out w.out after.out × Appends before.errs w.errs after.errs × (after.told ≡ w.files)
-outcome_ended words left plan before after s m (inl t) ran = (outcome_of t.turns after.told, outcome.IsOutcome.turns words left before.told after.told plan t.turns m t.in_turn, t.status_is, t.out, t.errs, refl)
+outcome_ended words left plan before after s m (inl t) ran = (outcome_of t.turns after.told, of_turns words left before.told after.told plan t.turns m t.in_turn, t.status_is, t.out, t.errs, refl)
 outcome_ended words left plan before after s m (inr (unread u)) ran = absurd ran
 outcome_ended words left plan before after s m (inr (starved u)) ran = absurd ran
 outcome_ended words left plan before after s m (inr (unwritten u)) ran = absurd ran
@@ -213,8 +212,8 @@ pub stopped_ended : (words : List (List ℕ)) (left : Option (List ℕ)) (plan :
     → (w : Outcome) × IsBegun words left before.told w × Appends before.out w.out after.out × Appends before.errs w.errs after.errs × (after.told ≡ w.files)
 stopped_ended words left plan before after s m (inl t) (inl e) = absurd (not_other s (through_status plan.command left (origins plan.files) before after s t) (subst IsOther (sym e) tt))
 stopped_ended words left plan before after s m (inl t) (inr e) = absurd (not_other s (through_status plan.command left (origins plan.files) before after s t) (subst IsOther (sym e) tt))
-stopped_ended words left plan before after s m (inr (unread u)) e = (outcome_of u.turns after.told, outcome.IsBegun.turns words left before.told after.told plan u.first (u.origin ∷ u.later) u.turns m u.is u.in_turn, u.out, u.errs, refl)
-stopped_ended words left plan before after s m (inr (starved u)) e = (outcome_of u.turns after.told, outcome.IsBegun.turns words left before.told after.told plan u.first u.later u.turns m u.is u.in_turn, u.out, u.errs, refl)
+stopped_ended words left plan before after s m (inr (unread u)) e = (outcome_of u.turns after.told, begun_turns words left before.told after.told plan u.first (u.origin ∷ u.later) u.turns m u.is u.in_turn, u.out, u.errs, refl)
+stopped_ended words left plan before after s m (inr (starved u)) e = (outcome_of u.turns after.told, begun_turns words left before.told after.told plan u.first u.later u.turns m u.is u.in_turn, u.out, u.errs, refl)
 stopped_ended words left plan before after s m (inr (unwritten u)) (inl e) = absurd cc
 stopped_ended words left plan before after s m (inr (unwritten u)) (inr e) = absurd cc
 
@@ -223,7 +222,7 @@ pub part_ended : (words : List (List ℕ)) (left : Option (List ℕ)) (plan : Pl
 part_ended words left plan before after s m (inl t) e = absurd (not_other s (through_status plan.command left (origins plan.files) before after s t) (subst IsOther (sym e) tt))
 part_ended words left plan before after s m (inr (unread u)) e = absurd cc
 part_ended words left plan before after s m (inr (starved u)) e = absurd cc
-part_ended words left plan before after s m (inr (unwritten u)) e = (outcome_of u.turns after.told, u.out_bytes, u.errs_bytes, outcome.IsBegun.turns words left before.told after.told plan u.first u.later u.turns m u.is u.in_turn, u.out, u.errs, refl)
+part_ended words left plan before after s m (inr (unwritten u)) e = (outcome_of u.turns after.told, u.out_bytes, u.errs_bytes, begun_turns words left before.told after.told plan u.first u.later u.turns m u.is u.in_turn, u.out, u.errs, refl)
 
 -- a source whose turn is among others was there
 no_cause : (left : Option (List ℕ)) (told : Option FileMap) (origin : Origin) (before after : Counts) (contents : List ℕ) → Holds left told origin contents → NoneRose before after → CannotRead origin told before after → ⊥
@@ -247,8 +246,8 @@ complete_turns c left sources before after s last turns (inr (unwritten u)) in_t
 
 pub complete_ended : (words : List (List ℕ)) (left : Option (List ℕ)) (plan : Plan) (before after : World) (s : Status) → Mean words plan → EndedBy plan left before after s
     → (w : Outcome) → IsOutcome words left before.told w → AreTold words left before.told → NoneRose before.counts after.counts → (s ≡ w.status) ⊎ (s ≡ NoMemory)
-complete_ended words left plan before after s m ended w (outcome.IsOutcome.usage _ _ _ other) told calm = absurd (other plan m)
-complete_ended words left plan before after s m ended w (outcome.IsOutcome.turns _ _ _ last planned turns n in_turn) told calm =
+complete_ended words left plan before after s m ended w (of_usage _ _ _ other) told calm = absurd (other plan m)
+complete_ended words left plan before after s m ended w (of_turns _ _ _ last planned turns n in_turn) told calm =
     complete_turns plan.command left (origins plan.files) before after s last turns ended
     (subst (λ (p : Plan). InTurn p.command left before.told (origins p.files) turns last) (one_plan words planned plan n m) in_turn) (told plan m) calm
 
@@ -279,8 +278,8 @@ one_origin (name ∷ other ∷ names) few = absurd (omega arith)
 
 minified : (left : Option (List ℕ)) (told after : Option FileMap) (source : Origin) (turns : List Turn) → InTurn command.Minify left told (source ∷ []) turns after → status_of turns ≡ Done
     → (contents : List ℕ) × (text : List ℕ) × Holds left told source contents × KeepsProgram contents text × (out_of turns ≡ text)
-minified left told after source turns (turn _ _ _ _ _ _ contents t others holds (refused _ _ _ _ _ _ _) rest) is = absurd cc
-minified left told after source turns (turn _ _ _ _ _ _ contents t others holds (done _ _ _ text w) (none _ _ _)) is = (contents, text, holds, keeps_program contents text w.0 w.1 w.2, append-nil text)
+minified left told after source turns (one_more _ _ _ _ _ _ contents t others holds (refused _ _ _ _ _ _ _) rest) is = absurd cc
+minified left told after source turns (one_more _ _ _ _ _ _ contents t others holds (done _ _ _ text w) (no_more _ _ _)) is = (contents, text, holds, keeps_program contents text w.0 w.1 w.2, append-nil text)
 
 pub text_ended : (words : List (List ℕ)) (left : Option (List ℕ)) (plan : Plan) (before after : World) (s : Status) → Mean words plan → EndedBy plan left before after s
     → s ≡ Done → (other : Plan) → Mean words other → other.command ≡ command.Minify

@@ -5,7 +5,7 @@ use Rattle.luf_io.specs.Files.{FileMap}
 use Rattle.luf_io.specs.Sink.{Appends}
 use Rattle.luf_io.proofs.Pieces.{Appends-append}
 use Rattle.luafmt.specs.Counts.{Counts, CouldNotWrite, ReadsAreCalm, WritesAreCalm}
-use Rattle.luafmt.specs.Outcome.{Origin, input, file, name_of, Holds, Turn, Comes, refused, done, rewritten_by, InTurn, none, turn, or_next, status_of, out_of, errs_of}
+use Rattle.luafmt.specs.Outcome.{Origin, input, file, name_of, Holds, Turn, Comes, refused, done, rewritten_by, InTurn, no_more, one_more, or_next, status_of, out_of, errs_of}
 use Rattle.luafmt.specs.declared.command.Command.{Command}
 use Rattle.luafmt.specs.declared.status.Status.{Status}
 use Rattle.luafmt.specs.declared.status.Status.TheVariants.{Done, Differs, Usage, Refused, ReadFault, WriteFault, NoMemory, Config}
@@ -28,21 +28,21 @@ turn_kept command origin contents t told comes = rewritten_none origin told t.re
 
 -- and at all turns
 pub told_kept : (command : Command) (left : Option (List ℕ)) (told after : Option FileMap) (origins : List Origin) (turns : List Turn) → InTurn command left told origins turns after → after ≡ told
-told_kept command left told after origins turns (none _ _ _) = refl
-told_kept command left told after origins turns (turn _ _ _ _ origin later contents t others holds comes rest) =
+told_kept command left told after origins turns (no_more _ _ _) = refl
+told_kept command left told after origins turns (one_more _ _ _ _ origin later contents t others holds comes rest) =
     told_kept command left (rewritten_by origin t.rewritten told) after later others rest ∙ turn_kept command origin contents t told comes
 
 -- ---- joined
 
 pub one_turn : (command : Command) (left : Option (List ℕ)) (told : Option FileMap) (origin : Origin) (contents : List ℕ) (t : Turn) → Holds left told origin contents → Comes command (name_of origin) contents t → InTurn command left told (origin ∷ []) (t ∷ []) told
 one_turn command left told origin contents t holds comes =
-    turn command left told told origin [] contents t [] holds comes
-    (subst (λ (files : Option FileMap). InTurn command left files [] [] told) (sym (turn_kept command origin contents t told comes)) (none command left told))
+    one_more command left told told origin [] contents t [] holds comes
+    (subst (λ (files : Option FileMap). InTurn command left files [] [] told) (sym (turn_kept command origin contents t told comes)) (no_more command left told))
 
 pub in_turn_append : (command : Command) (left : Option (List ℕ)) (told middle after : Option FileMap) (first later : List Origin) (turns others : List Turn) → InTurn command left told first turns middle → InTurn command left middle later others after → InTurn command left told (first ++ later) (turns ++ others) after
-in_turn_append command left told middle after first later turns others (none _ _ _) second = second
-in_turn_append command left told middle after first later turns others (turn _ _ _ _ origin origins contents t rest holds comes in_turn) second =
-    turn command left told after origin (origins ++ later) contents t (rest ++ others) holds comes
+in_turn_append command left told middle after first later turns others (no_more _ _ _) second = second
+in_turn_append command left told middle after first later turns others (one_more _ _ _ _ origin origins contents t rest holds comes in_turn) second =
+    one_more command left told after origin (origins ++ later) contents t (rest ++ others) holds comes
     (in_turn_append command left (rewritten_by origin t.rewritten told) middle after origins later rest others in_turn second)
 
 or_next_assoc : (a b c : Status) → or_next (or_next a b) c ≡ or_next a (or_next b c)
@@ -104,7 +104,7 @@ one_through command left origin contents t before after holds comes told out err
 }
 
 no_turn : (command : Command) (left : Option (List ℕ)) (told after : Option FileMap) → after ≡ told → InTurn command left told [] [] after
-no_turn command left told after is = subst (λ (files : Option FileMap). InTurn command left told [] [] files) (sym is) (none command left told)
+no_turn command left told after is = subst (λ (files : Option FileMap). InTurn command left told [] [] files) (sym is) (no_more command left told)
 
 pub one_unread : (command : Command) (left : Option (List ℕ)) (origin : Origin) (before after : World)
     → after.told ≡ before.told → after.out ≡ before.out → after.errs ≡ before.errs → WritesAreCalm before.counts after.counts → CannotRead origin before.told before.counts after.counts → Halted command left (origin ∷ []) before after ReadFault
@@ -155,7 +155,7 @@ one_unwritten command left origin contents t before after n m holds comes told o
 pub through_none : (command : Command) (left : Option (List ℕ)) (before : World) → Through command left [] before before Done
 through_none command left before = record {
   turns = [];
-  in_turn = none command left before.told;
+  in_turn = no_more command left before.told;
   status_is = refl;
   out = nothing_put before.out before.out refl;
   errs = nothing_put before.errs before.errs refl;

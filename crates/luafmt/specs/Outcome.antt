@@ -60,8 +60,8 @@ rewritten_by _ _ told = told
 -- Sources one after another come to these turns. Each file is taken as it is at its turn: the first files are those before
 -- all turns, the last those after them.
 pub data InTurn : Command → Option (List ℕ) → Option FileMap → List Origin → List Turn → Option FileMap → Type 0 where
-  none : (command : Command) (left : Option (List ℕ)) (told : Option FileMap) → InTurn command left told [] [] told
-  turn : (command : Command) (left : Option (List ℕ)) (told after : Option FileMap) (origin : Origin) (origins : List Origin) (contents : List ℕ) (first : Turn) (turns : List Turn)
+  no_more : (command : Command) (left : Option (List ℕ)) (told : Option FileMap) → InTurn command left told [] [] told
+  one_more : (command : Command) (left : Option (List ℕ)) (told after : Option FileMap) (origin : Origin) (origins : List Origin) (contents : List ℕ) (first : Turn) (turns : List Turn)
       → Holds left told origin contents → Comes command (name_of origin) contents first
       → InTurn command left (rewritten_by origin first.rewritten told) origins turns after
       → InTurn command left told (origin ∷ origins) (first ∷ turns) after
@@ -107,15 +107,15 @@ usage_outcome told = record { status = Usage; out = []; errs = usage_line; files
 
 -- the outcome of a run with these words, over an input with this left and over these files
 pub data IsOutcome : List (List ℕ) → Option (List ℕ) → Option FileMap → Outcome → Type 0 where
-  usage : (words : List (List ℕ)) (left : Option (List ℕ)) (told : Option FileMap) → AreNoCommand words → IsOutcome words left told (usage_outcome told)
-  turns : (words : List (List ℕ)) (left : Option (List ℕ)) (told after : Option FileMap) (plan : Plan) (turns : List Turn) → Mean words plan
+  of_usage : (words : List (List ℕ)) (left : Option (List ℕ)) (told : Option FileMap) → AreNoCommand words → IsOutcome words left told (usage_outcome told)
+  of_turns : (words : List (List ℕ)) (left : Option (List ℕ)) (told after : Option FileMap) (plan : Plan) (turns : List Turn) → Mean words plan
       → InTurn plan.command left told (origins plan.files) turns after → IsOutcome words left told (outcome_of turns after)
 
 -- What a run that is cut short may have come to before: nothing, the line of `Usage`, or the turns of its first sources.
 pub data IsBegun : List (List ℕ) → Option (List ℕ) → Option FileMap → Outcome → Type 0 where
-  nothing : (words : List (List ℕ)) (left : Option (List ℕ)) (told : Option FileMap) → IsBegun words left told (outcome_of [] told)
-  usage : (words : List (List ℕ)) (left : Option (List ℕ)) (told : Option FileMap) → AreNoCommand words → IsBegun words left told (usage_outcome told)
-  turns : (words : List (List ℕ)) (left : Option (List ℕ)) (told after : Option FileMap) (plan : Plan) (first later : List Origin) (turns : List Turn) → Mean words plan
+  begun_nothing : (words : List (List ℕ)) (left : Option (List ℕ)) (told : Option FileMap) → IsBegun words left told (outcome_of [] told)
+  begun_usage : (words : List (List ℕ)) (left : Option (List ℕ)) (told : Option FileMap) → AreNoCommand words → IsBegun words left told (usage_outcome told)
+  begun_turns : (words : List (List ℕ)) (left : Option (List ℕ)) (told after : Option FileMap) (plan : Plan) (first later : List Origin) (turns : List Turn) → Mean words plan
       → origins plan.files ≡ first ++ later → InTurn plan.command left told first turns after → IsBegun words left told (outcome_of turns after)
 
 -- the contents of all sources are told

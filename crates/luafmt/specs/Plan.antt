@@ -1,5 +1,5 @@
 -- What the words of a run mean: a command, and the files that it is to read. Our own rules.
-use Rattle.std.specs.Prelude.{◌≡◌, ℕ, List, [], ◌∷◌, length, codes, unwrap_or}
+use Rattle.std.specs.Prelude.{◌≡◌, ℕ, List, [], ◌∷◌, length, codes, Some, unwrap_or}
 use Rattle.clap.specs.Lexer.{usize_max}
 use Rattle.clap.specs.Walk.{Rule, all_of}
 use Rattle.clap.specs.Simple.{App, matches_of, new_app, new_rule, with_rule}

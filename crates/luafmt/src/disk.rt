@@ -19,7 +19,7 @@ pub struct DiskFiles<'a, R> {
 impl<'a, R: System> DiskFiles<'a, R> {
     /// No call has failed yet.
     pub fn new(system: &'a R) -> DiskFiles<'a, R>
-        ensures { result ≡ record { system = system; fetches = 0; replaces = 0 } }
+        ensures { (result.fetches ≡ 0) × (result.replaces ≡ 0) }
     {
         DiskFiles {
             system,
