@@ -1,3 +1,4 @@
 pub mod Runs
 pub mod Sources
 pub mod Turns
+pub mod Words

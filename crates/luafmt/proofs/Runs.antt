@@ -1,5 +1,5 @@
 -- What a run comes to, from the plan of its words and the end of its turns.
-use Rattle.std.proofs.Common.{◌≡◌, ◌≢◌, ◌⊎◌, inl, inr, ℕ, ◌≤◌, List, [], ◌∷◌, ◌++◌, map, length, take, codes, Option, Some, None, IsSome, refl, sym, ap, ap₂, ◌∙◌, subst, append-nil, arith}
+use Rattle.std.proofs.Common.{◌≡◌, ◌≢◌, ◌⊎◌, inl, inr, ℕ, suc, ◌<◌, ◌≤◌, List, [], ◌∷◌, ◌++◌, map, length, take, codes, Option, Some, None, IsSome, refl, sym, ap, ap₂, ◌∙◌, subst, append-nil, arith}
 use Rattle.std.specs.List.{All}
 use Rattle.std.specs.FinMap.{get}
 use Rattle.luf_io.specs.Count.{Rose}
@@ -12,7 +12,7 @@ use Rattle.luf_work.proofs.RefusalLemmas.{accepted_not_refused, source_not_refus
 use Rattle.luf_work.proofs.ListLemmas.{list_accepted_not_refused}
 use Rattle.luafmt.specs.Command.{command_word, TakesFiles, Accepts, Writes, Refuses}
 use Rattle.luafmt.specs.Counts.{Counts, CouldNotRead, of_input, of_fetch, of_missing, CouldNotWrite, of_out, of_errs, ReadsAreCalm, WritesAreCalm, NoneRose}
-use Rattle.luafmt.specs.Outcome.{Origin, input, file, name_of, Holds, IsTold, Turn, Comes, refused, done, InTurn, no_more, one_more, origins, or_next, status_of, out_of, errs_of, Outcome, outcome_of, IsOutcome, of_usage, of_turns, IsBegun, begun_turns, AreTold, IsMissingAtTurn, RanThrough}
+use Rattle.luafmt.specs.Outcome.{Origin, input, file, name_of, Holds, IsTold, Turn, Comes, refused, done, rewritten_by, InTurn, no_more, one_more, origins, or_next, status_of, out_of, errs_of, Outcome, outcome_of, IsOutcome, of_usage, of_turns, IsBegun, begun_turns, AreTold, IsMissingAtTurn, RanThrough}
 use Rattle.luafmt.specs.Plan.{Plan, Mean, AreNoCommand, files_in}
 use Rattle.luafmt.specs.declared.command.Command.{Command}
 use Rattle.luafmt.specs.declared.command.Command.TheVariants as command
@@ -35,7 +35,7 @@ one_word command.List command.Minify e = absurd cc
 one_word command.List command.Check e = absurd cc
 one_word command.List command.List e = refl
 
-first_word : List (List ℕ) → List ℕ
+abbrev first_word : List (List ℕ) → List ℕ
 first_word [] = []
 first_word (word ∷ words) = word
 
@@ -106,19 +106,25 @@ one_contents : (left : Option (List ℕ)) (told : Option FileMap) (origin : Orig
 one_contents left told input a b is h k = let x = told_of left is in sym (h x.0 x.1) ∙ k x.0 x.1
 one_contents left told (file name) a b is h k = let x = told_of told is in same_some (get x.0 name) a b (h x.0 x.1) (k x.0 x.1)
 
+first_told : (P : Origin → Type 0) (x : Origin) (xs : List Origin) → All P (x ∷ xs) → P x
+first_told P x xs all = all 0 x (omega arith)
+
+later_told : (P : Origin → Type 0) (x : Origin) (xs : List Origin) → All P (x ∷ xs) → All P xs
+later_told P x xs all = λ k d more. all (suc k) d (omega arith)
+
 -- turns of the same sources, over the same files, have the same status
 same_status : (c : Command) (left : Option (List ℕ)) (told one other after last : Option FileMap) (sources : List Origin) (turns others : List Turn) → one ≡ told → other ≡ told → All (IsTold left told) sources
     → InTurn c left one sources turns after → InTurn c left other sources others last → status_of turns ≡ status_of others
 same_status c left told one other after last sources turns others e f all (no_more _ _ _) (no_more _ _ _) = refl
 same_status c left told one other after last sources turns others e f all (one_more _ _ _ _ origin later contents t ts holds comes rest) (one_more _ _ _ _ _ _ again u us holds_too comes_too rest_too) =
-    let same : contents ≡ again = one_contents left told origin contents again all.0 (subst (λ (files : Option FileMap). Holds left files origin contents) e holds) (subst (λ (files : Option FileMap). Holds left files origin again) f holds_too) in
+    let same : contents ≡ again = one_contents left told origin contents again (first_told (IsTold left told) origin later all) (subst (λ (files : Option FileMap). Holds left files origin contents) e holds) (subst (λ (files : Option FileMap). Holds left files origin again) f holds_too) in
     let status : t.status ≡ u.status = one_status c (name_of origin) again t u (subst (λ (bytes : List ℕ). Comes c (name_of origin) bytes t) same comes) comes_too in
-    ap₂ or_next status (same_status c left told _ _ after last later ts us (turn_kept c origin contents t one comes ∙ e) (turn_kept c origin again u other comes_too ∙ f) all.1 rest rest_too)
+    ap₂ or_next status (same_status c left told (rewritten_by origin t.rewritten one) (rewritten_by origin u.rewritten other) after last later ts us (turn_kept c origin contents t one comes ∙ e) (turn_kept c origin again u other comes_too ∙ f) (later_told (IsTold left told) origin later all) rest rest_too)
 
 -- each source of turns has contents
 there : (c : Command) (left : Option (List ℕ)) (told one after : Option FileMap) (first later : List Origin) (origin : Origin) (turns : List Turn) → one ≡ told → InTurn c left one (first ++ origin ∷ later) turns after → (contents : List ℕ) × Holds left told origin contents
 there c left told one after [] later origin turns e (one_more _ _ _ _ _ _ contents t ts holds comes rest) = (contents, subst (λ (files : Option FileMap). Holds left files origin contents) e holds)
-there c left told one after (x ∷ first) later origin turns e (one_more _ _ _ _ _ _ contents t ts holds comes rest) = there c left told _ after first later origin ts (turn_kept c x contents t one comes ∙ e) rest
+there c left told one after (x ∷ first) later origin turns e (one_more _ _ _ _ _ _ contents t ts holds comes rest) = there c left told (rewritten_by x t.rewritten one) after first later origin ts (turn_kept c x contents t one comes ∙ e) rest
 
 not_missing : (left : Option (List ℕ)) (told : Option FileMap) (name contents : List ℕ) → Holds left told (file name) contents → IsMissing told name → ⊥
 not_missing left told name contents holds missing = let found = holds missing.0 missing.1 in let none = missing.2 in absurd cc
@@ -296,3 +302,9 @@ text_ended words left plan before after s m (inl t) e other n is =
 text_ended words left plan before after s m (inr (unread u)) e other n is = absurd cc
 text_ended words left plan before after s m (inr (starved u)) e other n is = absurd cc
 text_ended words left plan before after s m (inr (unwritten u)) e other n is = absurd cc
+
+-- ---- words that mean no plan
+
+pub usage_complete : (words : List (List ℕ)) (left : Option (List ℕ)) (told : Option FileMap) (w : Outcome) → AreNoCommand words → IsOutcome words left told w → Usage ≡ w.status
+usage_complete words left told w other (of_usage _ _ _ _) = refl
+usage_complete words left told w other (of_turns _ _ _ _ plan turns m _) = absurd (other plan m)

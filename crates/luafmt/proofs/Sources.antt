@@ -1,5 +1,5 @@
 -- What one source comes to, from the answer to it; and the counts and causes of its turn.
-use Rattle.std.proofs.Common.{◌≡◌, ◌≢◌, ◌⊎◌, inl, inr, ℕ, suc, ◌+◌, ◌<◌, ◌≤◌, List, [], ◌∷◌, ◌++◌, length, Option, Some, None, Err, refl, sym, ap, ◌∙◌, subst, arith, length-append}
+use Rattle.std.proofs.Common.{◌≡◌, ◌≢◌, ◌⊎◌, inl, inr, ℕ, zero, suc, ◌+◌, ◌<◌, ◌≤◌, List, [], ◌∷◌, ◌++◌, length, Option, Some, None, Err, refl, sym, ap, ◌∙◌, subst, arith, length-append}
 use Rattle.std.specs.Option.{ForSome}
 use Rattle.std.specs.FinMap.{get}
 use Rattle.luf_io.specs.Count.{Rose}
@@ -40,7 +40,7 @@ too_large command.List contents large = large
 
 -- some list is longer than a number
 longer : (n : ℕ) → (xs : List ℕ) × (n < length xs)
-longer 0 = (0 ∷ [], omega arith)
+longer zero = (0 ∷ [], omega arith)
 longer (suc n) = let xs = longer n in let long = xs.1 in (0 ∷ xs.0, omega arith)
 
 same_told : (files others : FileMap) (name bytes : List ℕ) → Some files ≡ Some others → get files name ≡ Some bytes → get others name ≡ Some bytes

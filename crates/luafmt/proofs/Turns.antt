@@ -1,15 +1,18 @@
 -- Sources in turn: one, and some after others.
-use Rattle.std.proofs.Common.{◌≡◌, ◌⊎◌, inl, inr, ℕ, ◌+◌, List, [], ◌∷◌, ◌++◌, length, take, Option, Some, None, refl, sym, ap, ap₂, ◌∙◌, subst, append_assoc, append-nil, arith}
+use Rattle.std.proofs.Common.{◌≡◌, ◌⊎◌, inl, inr, ℕ, ◌+◌, ◌<◌, ◌≤◌, ◌==◌, false, List, [], ◌∷◌, ◌++◌, length, map, take, drop, Option, Some, None, refl, sym, ap, ap₂, ◌∙◌, subst, append_assoc, append-nil, arith}
+use Rattle.std.specs.Borrow.{Bor}
+use Rattle.std.proofs.Math.ListN.{get_or}
 use Rattle.std.proofs.Math.Seq.{take-append-add}
+use Rattle.std.proofs.lemmas.List.{take_all, take_more, take-append-drop, map-append}
 use Rattle.luf_io.specs.Files.{FileMap}
 use Rattle.luf_io.specs.Sink.{Appends}
 use Rattle.luf_io.proofs.Pieces.{Appends-append}
 use Rattle.luafmt.specs.Counts.{Counts, CouldNotWrite, ReadsAreCalm, WritesAreCalm}
-use Rattle.luafmt.specs.Outcome.{Origin, input, file, name_of, Holds, Turn, Comes, refused, done, rewritten_by, InTurn, no_more, one_more, or_next, status_of, out_of, errs_of}
+use Rattle.luafmt.specs.Outcome.{Origin, input, file, name_of, Holds, Turn, Comes, refused, done, rewritten_by, InTurn, no_more, one_more, origins, or_next, status_of, out_of, errs_of}
 use Rattle.luafmt.specs.declared.command.Command.{Command}
 use Rattle.luafmt.specs.declared.status.Status.{Status}
 use Rattle.luafmt.specs.declared.status.Status.TheVariants.{Done, Differs, Usage, Refused, ReadFault, WriteFault, NoMemory, Config}
-use Rattle.luafmt.specs.inner.Ended.{World, Through, CannotRead, Unread, Starved, Unwritten, Halted, unread, starved, unwritten}
+use Rattle.luafmt.specs.inner.Ended.{World, Through, CannotRead, Unread, Starved, Unwritten, Halted, unread, starved, unwritten, Ended}
 
 -- ---- the files
 
@@ -79,7 +82,7 @@ errs_of-append (t ∷ turns) others = ap (λ bytes. t.errs ++ bytes) (errs_of-ap
 
 -- ---- what was put
 
-nothing_put : (written after : Option (List ℕ)) → after ≡ written → Appends written [] after
+pub nothing_put : (written after : Option (List ℕ)) → after ≡ written → Appends written [] after
 nothing_put None after is = is
 nothing_put (Some bytes) after is = is ∙ ap Some (sym (append-nil bytes))
 
@@ -92,12 +95,12 @@ part_put before middle after a b n first second =
 
 -- ---- the end of one source
 
-pub one_through : (command : Command) (left : Option (List ℕ)) (origin : Origin) (contents : List ℕ) (t : Turn) (before after : World) → Holds left before.told origin contents → Comes command (name_of origin) contents t
-    → after.told ≡ before.told → Appends before.out t.out after.out → Appends before.errs t.errs after.errs → after.counts ≡ before.counts → Through command left (origin ∷ []) before after t.status
-one_through command left origin contents t before after holds comes told out errs counts = record {
+pub one_through : (command : Command) (left : Option (List ℕ)) (origin : Origin) (contents : List ℕ) (t : Turn) (s : Status) (before after : World) → s ≡ t.status → Holds left before.told origin contents → Comes command (name_of origin) contents t
+    → after.told ≡ before.told → Appends before.out t.out after.out → Appends before.errs t.errs after.errs → after.counts ≡ before.counts → Through command left (origin ∷ []) before after s
+one_through command left origin contents t s before after status holds comes told out errs counts = record {
   turns = t ∷ [];
   in_turn = subst (λ (files : Option FileMap). InTurn command left before.told (origin ∷ []) (t ∷ []) files) (sym told) (one_turn command left before.told origin contents t holds comes);
-  status_is = sym (or_next_done t.status);
+  status_is = status ∙ sym (or_next_done t.status);
   out = alone before.out after.out t.out out;
   errs = alone before.errs after.errs t.errs errs;
   counts = counts;
@@ -211,3 +214,51 @@ halted_then command left first more later before middle after s end a (unwritten
   calm = subst (λ (k : Counts). ReadsAreCalm k after.counts) a.counts u.calm;
   cause = subst (λ (k : Counts). CouldNotWrite k after.counts) a.counts u.cause;
 })
+
+-- ---- the files of a loop over their names
+
+abbrev texts : List (Bor (List ℕ)) → List (List ℕ)
+texts = map (λ s. s.now)
+
+-- one name more
+files_more : (names : List (Bor (List ℕ))) (i : ℕ) (d : Bor (List ℕ)) → i < length names → map file (texts (take (i + 1) names)) ≡ map file (texts (take i names)) ++ file (get_or names i d).now ∷ []
+files_more names i d more =
+    ap (λ (xs : List (Bor (List ℕ))). map file (texts xs)) (take_more names i d more)
+    ∙ ap (map file) (map-append (λ (s : Bor (List ℕ)). s.now) (take i names) (get_or names i d ∷ []))
+    ∙ map-append file (texts (take i names)) ((get_or names i d).now ∷ [])
+
+-- the names before, this one, and those behind it
+files_around : (names : List (Bor (List ℕ))) (i : ℕ) (d : Bor (List ℕ)) → i < length names
+    → map file (texts names) ≡ map file (texts (take i names)) ++ ((file (get_or names i d).now ∷ []) ++ map file (texts (drop (i + 1) names)))
+files_around names i d more =
+    ap (λ (xs : List (Bor (List ℕ))). map file (texts xs)) (sym (take-append-drop (i + 1) names))
+    ∙ ap (map file) (map-append (λ (s : Bor (List ℕ)). s.now) (take (i + 1) names) (drop (i + 1) names))
+    ∙ map-append file (texts (take (i + 1) names)) (texts (drop (i + 1) names))
+    ∙ ap (λ (xs : List Origin). xs ++ map file (texts (drop (i + 1) names))) (files_more names i d more)
+    ∙ append_assoc (map file (texts (take i names))) (file (get_or names i d).now ∷ []) (map file (texts (drop (i + 1) names)))
+
+pub through_files : (command : Command) (left : Option (List ℕ)) (names : List (Bor (List ℕ))) (i : ℕ) (d : Bor (List ℕ)) (before middle after : World) (s next whole : Status) → i < length names → whole ≡ or_next s next
+    → Through command left (map file (map (λ s. s.now) (take i names))) before middle s → Through command left (file (get_or names i d).now ∷ []) middle after next → Through command left (map file (map (λ s. s.now) (take (i + 1) names))) before after whole
+through_files command left names i d before middle after s next whole more is a b =
+    subst (λ (xs : List Origin). Through command left xs before after whole) (sym (files_more names i d more))
+    (subst (λ (w : Status). Through command left (map file (texts (take i names)) ++ file (get_or names i d).now ∷ []) before after w) (sym is)
+    (through_then command left (map file (texts (take i names))) (file (get_or names i d).now ∷ []) before middle after s next a b))
+
+pub halted_files : (command : Command) (left : Option (List ℕ)) (names : List (Bor (List ℕ))) (i : ℕ) (d : Bor (List ℕ)) (before middle after : World) (s end : Status) → i < length names
+    → Through command left (map file (map (λ s. s.now) (take i names))) before middle s → Halted command left (file (get_or names i d).now ∷ []) middle after end → Halted command left (map file (map (λ s. s.now) names)) before after end
+halted_files command left names i d before middle after s end more a b =
+    subst (λ (xs : List Origin). Halted command left xs before after end) (sym (files_around names i d more))
+    (halted_then command left (map file (texts (take i names))) (file (get_or names i d).now ∷ []) (map file (texts (drop (i + 1) names))) before middle after s end a b)
+
+pub through_all : (command : Command) (left : Option (List ℕ)) (names : List (Bor (List ℕ))) (i : ℕ) (before after : World) (s : Status) → length names ≤ i → Through command left (map file (map (λ s. s.now) (take i names))) before after s → Through command left (map file (map (λ s. s.now) names)) before after s
+through_all command left names i before after s most a = subst (λ (xs : List (Bor (List ℕ))). Through command left (map file (texts xs)) before after s) (take_all i names most) a
+
+-- where files are named, they are the sources
+origins_named : (names : List (Bor (List ℕ))) → (length names == 0) ≡ false → map file (texts names) ≡ origins (texts names)
+origins_named [] none = absurd cc
+origins_named (name ∷ names) some = refl
+
+pub ended_named : (command : Command) (left : Option (List ℕ)) (names items : List (Bor (List ℕ))) (before after : World) (s : Status) → names ≡ items → (length names == 0) ≡ false → Ended command left (map file (map (λ s. s.now) names)) before after s → Ended command left (origins (map (λ s. s.now) items)) before after s
+ended_named command left names items before after s is some ended =
+    subst (λ (xs : List (Bor (List ℕ))). Ended command left (origins (texts xs)) before after s) is
+    (subst (λ (xs : List Origin). Ended command left xs before after s) (origins_named names some) ended)

@@ -88,7 +88,7 @@ fn files_of<'a>(
         Err(e) => return Err(NoPlan::from(e)),
     };
     match matches.get_strs("FILE") {
-        Some(files) => Ok(files.to_vec(alloc)?),
+        Some(files) => Ok(Vec::from_slice(alloc, files)?),
         None => Ok(Vec::new(alloc)),
     }
 }

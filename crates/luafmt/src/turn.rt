@@ -30,10 +30,11 @@ pub(crate) fn take_turns<F: Files, I: Source, O: Sink, E: Sink>(
     ensures named { map (λ s. s.now) plan.now.files.items ≢ [] → input.new ≡ input.old }
     ensures unnamed { map (λ s. s.now) plan.now.files.items ≡ [] → files.new ≡ files.old }
 {
-    if plan.files.is_empty() {
+    let names = plan.files.as_slice();
+    if names.is_empty() {
         return take_input(alloc, plan.command, input, out, errs);
     }
-    take_files(alloc, plan.command, &plan.files, files, out, errs)
+    take_files(alloc, plan.command, names, files, out, errs)
 }
 
 // The turn of the input alone. Files are not touched: whatever they tell and count, stays.

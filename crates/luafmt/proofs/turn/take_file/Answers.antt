@@ -2,8 +2,6 @@ use Rattle.std.proofs.Common.{rules, ◌≡◌, ◌⊎◌, ◌∷◌, [], ℕ, L
 use Rattle.luf_io.specs.Count.{Rose}
 use Rattle.luf_io.specs.Files.{IsMissing}
 use Rattle.luafmt.specs.Outcome.{file, Turn}
-use Rattle.luafmt.specs.declared.status.Status.{Status}
-use Rattle.luafmt.specs.inner.Ended.{Through}
 use Rattle.luafmt.proofs.Sources.{same_counts, could_not_write}
 use Rattle.luafmt.proofs.Turns.{one_through, one_unread, one_starved, one_unwritten}
 use Rattle.luafmt.proofs.turn.take_file.Goals as goal
@@ -12,9 +10,8 @@ pub returns-in-Ok-write-clause-ok : goal.returns-in-Ok-write-clause-ok
 returns-in-Ok-write-clause-ok g c = λ left faults.
     let comes = c.in-Ok.ensures.comes in
     let calm = c.in-Ok-write.ensures.calm in
-    subst (λ (s : Status). Through c.args.command left (file c.args.name.now ∷ []) _ _ s) (sym (ap (λ (t : Turn). t.status) c.answer.view_is))
-    (one_through c.args.command left (file c.args.name.now) comes.0 c.in-Ok.answer _ _ comes.1 comes.2 c.in-Ok.ensures.kept.0 (search rules) (search rules)
-    (same_counts refl c.in-Ok.ensures.calm c.in-Ok.ensures.kept.1 calm.0 calm.1))
+    one_through c.args.command left (file c.args.name.now) comes.0 c.in-Ok.answer _ _ _ (ap (λ (t : Turn). t.status) c.answer.view_is) comes.1 comes.2 c.in-Ok.ensures.kept.0 (search rules) (search rules)
+    (same_counts refl c.in-Ok.ensures.calm c.in-Ok.ensures.kept.1 calm.0 calm.1)
 
 pub returns-in-Ok-clause-err : goal.returns-in-Ok-clause-err
 returns-in-Ok-clause-err g c = λ left faults.

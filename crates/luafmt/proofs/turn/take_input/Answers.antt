@@ -1,8 +1,6 @@
 use Rattle.std.proofs.Common.{rules, ◌≡◌, inl, inr, ◌∷◌, [], ℕ, List, refl, sym, ap, subst}
 use Rattle.luf_io.specs.Count.{Rose}
 use Rattle.luafmt.specs.Outcome.{input, Turn}
-use Rattle.luafmt.specs.declared.status.Status.{Status}
-use Rattle.luafmt.specs.inner.Ended.{Through}
 use Rattle.luafmt.proofs.Sources.{same_counts, could_not_write}
 use Rattle.luafmt.proofs.Turns.{one_through, one_unread, one_starved, one_unwritten}
 use Rattle.luafmt.proofs.turn.take_input.Goals as goal
@@ -11,9 +9,8 @@ pub returns-in-Ok-write : goal.returns-in-Ok-write
 returns-in-Ok-write g c = λ told fetches replaces.
     let comes = c.in-Ok.ensures.comes in
     let calm = c.in-Ok-write.ensures.calm in
-    inl (subst (λ (s : Status). Through c.args.command (g.I.Source.left c.args.input.now) (input ∷ []) _ _ s) (sym (ap (λ (t : Turn). t.status) c.answer.view_is))
-    (one_through c.args.command _ input comes.0 c.in-Ok.answer _ _ comes.1 comes.2 refl (search rules) (search rules)
-    (same_counts c.in-Ok.ensures.calm refl refl calm.0 calm.1)))
+    inl (one_through c.args.command _ input comes.0 c.in-Ok.answer _ _ _ (ap (λ (t : Turn). t.status) c.answer.view_is) comes.1 comes.2 refl (search rules) (search rules)
+    (same_counts c.in-Ok.ensures.calm refl refl calm.0 calm.1))
 
 pub returns-in-Ok : goal.returns-in-Ok
 returns-in-Ok g c = λ told fetches replaces.
