@@ -1,4 +1,4 @@
 pub mod Runs
+pub mod SimpleCommand
 pub mod Sources
 pub mod Turns
-pub mod Words
