@@ -1,1 +1,4 @@
-pub mod Outcomes
+pub mod Runs
+pub mod SimpleCommand
+pub mod Sources
+pub mod Turns

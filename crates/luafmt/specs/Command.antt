@@ -1,5 +1,5 @@
--- The commands: the words that mean each, and what it accepts, writes and refuses. Our own rules.
-use Rattle.std.specs.Prelude.{◌≡◌, ℕ, ◌≤◌, List, [], ◌∷◌, length, codes}
+-- The commands: the word of each, how many files it takes, and what it accepts, writes and refuses. Our own rules.
+use Rattle.std.specs.Prelude.{◌≡◌, ℕ, ◌≤◌, List, [], length, codes}
 use Rattle.luf_min.specs.Minified.{IsMinified}
 use Rattle.luf_work.specs.Limits.{source_limit, text_limit}
 use Rattle.luf_work.specs.List.{IsListing, IsListAccepted, IsListRefusal}
@@ -15,12 +15,11 @@ command_word command.Minify = codes "minify"
 command_word command.Check = codes "check"
 command_word command.List = codes "list"
 
--- the words are the one word of a command
-abbrev pub Mean : List (List ℕ) → Command → Type 0
-Mean words command = words ≡ command_word command ∷ []
-
-abbrev pub AreNoCommand : List (List ℕ) → Type 0
-AreNoCommand words = (command : Command) → Mean words command → ⊥
+-- how many files may be named behind the word: any number, or one at most
+abbrev pub TakesFiles : Command → ℕ → Type 0
+TakesFiles command.Minify count = count ≤ 1
+TakesFiles command.Check count = Unit {0}
+TakesFiles command.List count = count ≤ 1
 
 -- what a command accepts
 abbrev pub Accepts : Command → List ℕ → Type 0

@@ -1,4 +1,7 @@
 pub mod Code
 pub mod Command
+pub mod Counts
 pub mod Line
 pub mod Outcome
+pub mod Plan
+pub mod inner

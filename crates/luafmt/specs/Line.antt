@@ -22,9 +22,13 @@ word_of BadEscape = codes "BadEscape"
 word_of OpenString = codes "OpenString"
 word_of OpenLong = codes "OpenLong"
 
+-- a word behind the name of a source
+abbrev pub named : List ℕ → List ℕ → List ℕ
+named name word = name ++ codes ": " ++ word
+
 -- a word with its place: line and column in decimal
-abbrev pub placed : Place → List ℕ → List ℕ
-placed place word = codes "-:" ++ decimal place.line ++ codes ":" ++ decimal place.column ++ codes ": " ++ word
+abbrev pub placed : List ℕ → Place → List ℕ → List ℕ
+placed name place word = name ++ codes ":" ++ decimal place.line ++ codes ":" ++ decimal place.column ++ codes ": " ++ word
 
 -- the word of a scope fault
 abbrev pub scope_word : ScopeWhat → List ℕ
@@ -47,17 +51,20 @@ chunk_word Nested = codes "Nested"
 chunk_word Trailing = codes "Trailing"
 
 -- a word with its place in a chunk: the first byte of a field, in decimal
-abbrev pub at_byte : ℕ → List ℕ → List ℕ
-at_byte at word = codes "-:" ++ decimal at ++ codes ": " ++ word
+abbrev pub at_byte : List ℕ → ℕ → List ℕ → List ℕ
+at_byte name at word = name ++ codes ":" ++ decimal at ++ codes ": " ++ word
 
--- What tells a refusal of the source from standard input, which is named `-`: its place, where it has one, and its
--- word. Want of memory has no line.
-abbrev pub refusal_line : Refusal → Option (List ℕ)
-refusal_line TooLarge = Some (codes "-: TooLarge")
-refusal_line (Lexical place what) = Some (placed place (word_of what))
-refusal_line (Syntax place) = Some (placed place (codes "Syntax"))
-refusal_line (TooDeep place) = Some (placed place (codes "TooDeep"))
-refusal_line (Scope place what) = Some (placed place (scope_word what))
-refusal_line (Chunk at what) = Some (at_byte at (chunk_word what))
-refusal_line ResultTooLarge = Some (codes "-: ResultTooLarge")
-refusal_line Memory = None
+-- What tells a refusal of a source: its name, its place, where it has one, and its word. Want of memory has no line.
+abbrev pub refusal_line : List ℕ → Refusal → Option (List ℕ)
+refusal_line name TooLarge = Some (named name (codes "TooLarge"))
+refusal_line name (Lexical place what) = Some (placed name place (word_of what))
+refusal_line name (Syntax place) = Some (placed name place (codes "Syntax"))
+refusal_line name (TooDeep place) = Some (placed name place (codes "TooDeep"))
+refusal_line name (Scope place what) = Some (placed name place (scope_word what))
+refusal_line name (Chunk at what) = Some (at_byte name at (chunk_word what))
+refusal_line name ResultTooLarge = Some (named name (codes "ResultTooLarge"))
+refusal_line name Memory = None
+
+-- what tells words that mean no plan
+abbrev pub usage_line : List ℕ
+usage_line = line_of (codes "luafmt: Usage")

@@ -1,9 +1,9 @@
 //! The commands.
-ghost use Rattle.std.specs.Prelude.{◌≡◌, ◌∷◌, [], map, string_bytes, MatchOption};
-ghost use Rattle.luafmt.specs.Command.{command_word, Mean, AreNoCommand};
+ghost use Rattle.std.specs.Prelude.{◌≡◌, ◌↔◌, IsTrue, MatchOption};
+ghost use Rattle.luafmt.specs.Command.{command_word, TakesFiles};
 ghost use Rattle.luafmt.specs.declared.command.Command.{Command as Meant};
 
-/// What a run does.
+/// What a run does with each of its sources.
 #[derive(Clone, Copy, Debug, PartialEq, Eq)]
 pub enum Command {
     /// Writes the minified text of a source.
@@ -14,17 +14,31 @@ pub enum Command {
     List,
 }
 
-// The command that the words mean, if they mean one.
-pub(crate) fn command_of(words: &[String]) -> Option<Command>
-    ensures { MatchOption result (AreNoCommand (map string_bytes words.now)) (Mean (map string_bytes words.now)) }
-{
-    match words {
-        [word] => named(word.as_bytes()),
-        _ => None,
+impl Command {
+    // The word that names it.
+    pub(crate) fn word(self) -> &'static str
+        ensures { result.now ≡ command_word self }
+    {
+        match self {
+            Command::Minify => "minify",
+            Command::Check => "check",
+            Command::List => "list",
+        }
+    }
+
+    // Whether so many files may be named.
+    pub(crate) fn takes_files(self, count: usize) -> bool
+        ensures { IsTrue result ↔ TakesFiles self count }
+    {
+        match self {
+            Command::Minify | Command::List => count <= 1,
+            Command::Check => true,
+        }
     }
 }
 
-fn named(word: &[u8]) -> Option<Command>
+// The command that a word names, if it names one.
+pub(crate) fn named(word: &[u8]) -> Option<Command>
     ensures { MatchOption result ((command : Meant) → command_word command ≡ word.now → ⊥) (λ command. command_word command ≡ word.now) }
 {
     match word {

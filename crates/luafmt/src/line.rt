@@ -1,7 +1,6 @@
 //! The line that tells a refusal.
 ghost use Rattle.std.specs.Prelude.{◌≡◌, string_bytes, Some, option_map, IfOk};
-ghost use Rattle.std.specs.Cow.{cow_str_bytes};
-ghost use Rattle.luafmt.specs.Line.{at_byte, chunk_word, line_of, placed, scope_word, word_of, refusal_line as spec_refusal_line};
+ghost use Rattle.luafmt.specs.Line.{at_byte, chunk_word, line_of, named, placed, scope_word, word_of, refusal_line as spec_refusal_line};
 
 use luf_lex::LexWhat;
 use luf_memory::Memory;
@@ -10,40 +9,41 @@ use luf_text::Place;
 use luf_undump::ChunkWhat;
 use luf_work::Refusal;
 use std::alloc::Global;
-use std::borrow::CowStr;
 
-// The line of a refusal, with its line end. Want of memory has none.
-pub(crate) fn refusal_line(alloc: Global, refusal: Refusal) -> Result<CowStr<'static>, Memory>
+// The line of a refusal of the source of this name, with its line end. Want of memory has none.
+pub(crate) fn refusal_line(alloc: Global, name: &str, refusal: Refusal) -> Result<String, Memory>
     ensures { IfOk result (λ line.
-        option_map line_of (spec_refusal_line refusal) ≡ Some (cow_str_bytes line)) }
+        option_map line_of (spec_refusal_line name.now refusal) ≡ Some (string_bytes line)) }
 {
     match refusal {
-        Refusal::TooLarge => Ok(CowStr::Borrowed("-: TooLarge\n")),
-        Refusal::Lexical(place, what) => {
-            Ok(CowStr::Owned(placed_line(alloc, place, word(what))?))
-        }
-        Refusal::Syntax(place) => Ok(CowStr::Owned(placed_line(alloc, place, "Syntax")?)),
-        Refusal::TooDeep(place) => Ok(CowStr::Owned(placed_line(alloc, place, "TooDeep")?)),
-        Refusal::Scope(place, what) => {
-            Ok(CowStr::Owned(placed_line(alloc, place, scope_word(what))?))
-        }
-        Refusal::Chunk(at, what) => Ok(CowStr::Owned(byte_line(alloc, at, chunk_word(what))?)),
-        Refusal::ResultTooLarge => Ok(CowStr::Borrowed("-: ResultTooLarge\n")),
+        Refusal::TooLarge => named_line(alloc, name, "TooLarge"),
+        Refusal::Lexical(place, what) => placed_line(alloc, name, place, word(what)),
+        Refusal::Syntax(place) => placed_line(alloc, name, place, "Syntax"),
+        Refusal::TooDeep(place) => placed_line(alloc, name, place, "TooDeep"),
+        Refusal::Scope(place, what) => placed_line(alloc, name, place, scope_word(what)),
+        Refusal::Chunk(at, what) => byte_line(alloc, name, at, chunk_word(what)),
+        Refusal::ResultTooLarge => named_line(alloc, name, "ResultTooLarge"),
         Refusal::Memory => Err(Memory),
     }
 }
 
-fn placed_line(alloc: Global, place: Place, word: &str) -> Result<String, Memory>
-    ensures { IfOk result (λ text. string_bytes text ≡ line_of (placed place word.now)) }
+fn named_line(alloc: Global, name: &str, word: &str) -> Result<String, Memory>
+    ensures { IfOk result (λ text. string_bytes text ≡ line_of (named name.now word.now)) }
 {
-    let Place { line, column } = place;
-    Ok(format!(in alloc; "-:{line}:{column}: {word}\n")?)
+    Ok(format!(in alloc; "{name}: {word}\n")?)
 }
 
-fn byte_line(alloc: Global, at: u32, word: &str) -> Result<String, Memory>
-    ensures { IfOk result (λ text. string_bytes text ≡ line_of (at_byte at word.now)) }
+fn placed_line(alloc: Global, name: &str, place: Place, word: &str) -> Result<String, Memory>
+    ensures { IfOk result (λ text. string_bytes text ≡ line_of (placed name.now place word.now)) }
 {
-    Ok(format!(in alloc; "-:{at}: {word}\n")?)
+    let Place { line, column } = place;
+    Ok(format!(in alloc; "{name}:{line}:{column}: {word}\n")?)
+}
+
+fn byte_line(alloc: Global, name: &str, at: u32, word: &str) -> Result<String, Memory>
+    ensures { IfOk result (λ text. string_bytes text ≡ line_of (at_byte name.now at word.now)) }
+{
+    Ok(format!(in alloc; "{name}:{at}: {word}\n")?)
 }
 
 fn word(what: LexWhat) -> &'static str

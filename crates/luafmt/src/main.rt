@@ -1,15 +1,18 @@
 //! A formatter and renaming minifier for Lua 5.4. So far it has three commands, `minify`,
-//! `check` and `list`, which read a source or a chunk from standard input and write to standard output.
+//! `check` and `list`, which read files or standard input and write to standard output.
 #![tactic(auto)]
 
 mod answer;
 mod command;
+mod disk;
 mod line;
+mod plan;
 mod run;
 mod status;
 mod streams;
+mod turn;
 
-use luf_io::NoFiles;
+use disk::DiskFiles;
 use status::Status;
 use std::alloc::AllocError;
 use std::env;
@@ -22,7 +25,7 @@ fn main(rt: HostRuntime) -> ExitCode {
         Ok(words) => run::run(
             rt.alloc(),
             &words,
-            &mut NoFiles::new(),
+            &mut DiskFiles::new(&rt),
             &mut StreamSource::new(rt.stdin()),
             &mut StreamSink::new(rt.stdout()),
             &mut StreamSink::new(rt.stderr()),

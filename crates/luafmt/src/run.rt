@@ -1,25 +1,26 @@
 //! The top call, from the words of a command to its status.
-ghost use Rattle.std.specs.Prelude.{◌≡◌, ◌≢◌, ◌⊎◌, ℕ, List, take, map, string_bytes, Some, OnOk, OnErr};
-ghost use Rattle.luf_io.specs.Count.{Rose};
+ghost use Rattle.std.specs.Prelude.{◌≡◌, ◌≢◌, ◌⊎◌, ◌∷◌, ℕ, List, [], take, map, string_bytes};
 ghost use Rattle.luf_io.specs.Sink.{Appends};
 ghost use Rattle.luf_work.specs.Minify.{KeepsProgram};
-ghost use Rattle.luafmt.specs.Command.{Mean, AreNoCommand, Accepts};
-ghost use Rattle.luafmt.specs.Outcome.{Outcome, AreContents, IsOutcome, RanThrough};
-ghost use Rattle.luafmt.specs.declared.command.Command.{Command as Meant};
+ghost use Rattle.luafmt.specs.Counts.{counts, CouldNotRead, CouldNotWrite, ReadsAreCalm, WritesAreCalm, NoneRose};
+ghost use Rattle.luafmt.specs.Outcome.{Origin, Outcome, IsOutcome, IsBegun, AreTold, IsMissingAtTurn, RanThrough, Holds, origins};
+ghost use Rattle.luafmt.specs.Plan.{Plan as Planned, Mean, AreNoCommand};
 ghost use Rattle.luafmt.specs.declared.command.Command.TheVariants as command;
 
-use crate::answer::{Answer, Halt, prepare};
+use crate::plan::{NoPlan, plan_of};
 use crate::status::Status;
+use crate::turn::take_turns;
 use luf_io::{Files, Sink, Source, WriteErr, write_all};
 use std::alloc::Global;
 
-/// Runs the command that the words after the program's name are: `minify`, `check` or `list`, alone. It writes
-/// the minified text of the input, nothing, or its listing to `out`, or the line of a refusal to `errs`. Nothing is
-/// written before the whole text is there. No file is touched.
+/// Runs the command that the words after the program's name mean, over its files in the order given, or over the input
+/// where none is named. For each source it writes the text of the command to `out`, or the line of a refusal to `errs`;
+/// nothing of a source is written before its whole text is there. A source that is refused ends nothing: the next is
+/// handled. The status is that of the first source that is not `Done`.
 ///
-/// A fault of `input` gives `ReadFault`, one of `out` or `errs` gives `WriteFault`, and want of
-/// memory gives `NoMemory`. `ReadFault` and `NoMemory` write nothing; `WriteFault` may leave a part of
-/// the text or of the line.
+/// A fault of `input` or of a fetch gives `ReadFault`, one of `out` or `errs` gives `WriteFault`, and want of memory gives
+/// `NoMemory`. Each ends the run at once, and writes no line: what the sources before came to stays, and `WriteFault` may
+/// leave a part of a text or of a line behind it.
 pub fn run<F: Files, I: Source, O: Sink, E: Sink>(
     alloc: Global,
     words: &[String],
@@ -30,72 +31,74 @@ pub fn run<F: Files, I: Source, O: Sink, E: Sink>(
 ) -> Status
     // A run that nothing cut short has written its whole outcome.
     ensures outcome { RanThrough result → (w : Outcome)
-        × IsOutcome (map string_bytes words.now) (I.left input.old) w
+        × IsOutcome (map string_bytes words.now) (I.left input.old) (F.told files.old) w
         × (result ≡ w.status)
         × Appends (O.written out.old) w.out (O.written out.new)
-        × Appends (E.written errs.old) w.errs (E.written errs.new) }
+        × Appends (E.written errs.old) w.errs (E.written errs.new)
+        × (F.told files.new ≡ w.files) }
 
-    // What `minify` writes has the tokens of the source.
-    ensures text { result ≡ Status.Done → Mean (map string_bytes words.now) command.Minify → (contents : List ℕ) × (text : List ℕ)
-        × AreContents (I.left input.old) contents
+    // What `minify` writes is the same program.
+    ensures text { result ≡ Status.Done → (plan : Planned) → Mean (map string_bytes words.now) plan → plan.command ≡ command.Minify
+        → (source : Origin) × (contents : List ℕ) × (text : List ℕ)
+        × (origins plan.files ≡ source ∷ [])
+        × Holds (I.left input.old) (F.told files.old) source contents
         × KeepsProgram contents text
         × Appends (O.written out.old) text (O.written out.new) }
 
-    // The words alone decide on `Usage`.
+    // The words alone decide on `Usage`, and on what is read.
     ensures usage { result ≡ Status.Usage → AreNoCommand (map string_bytes words.now) }
     ensures no_command { AreNoCommand (map string_bytes words.now)
-        → (result ≡ Status.Usage) ⊎ (result ≡ Status.WriteFault) }
-    ensures unread { AreNoCommand (map string_bytes words.now) → input.new ≡ input.old }
+        → (result ≡ Status.Usage) ⊎ (result ≡ Status.WriteFault) ⊎ (result ≡ Status.NoMemory) }
+    ensures unread { AreNoCommand (map string_bytes words.now) → (input.new ≡ input.old) × (files.new ≡ files.old) }
+    ensures named { (plan : Planned) → Mean (map string_bytes words.now) plan → plan.files ≢ [] → input.new ≡ input.old }
+    ensures unnamed { (plan : Planned) → Mean (map string_bytes words.now) plan → plan.files ≡ [] → files.new ≡ files.old }
 
     // Each fault has its cause, and a count of faults stays at every other answer.
-    ensures read_fault { result ≡ Status.ReadFault → Rose (I.faults input.old) (I.faults input.new)
-        × (command : Meant) × Mean (map string_bytes words.now) command }
-    ensures write_fault { result ≡ Status.WriteFault
-        → Rose (O.faults out.old) (O.faults out.new) ⊎ Rose (E.faults errs.old) (E.faults errs.new) }
-    ensures read_calm { result ≢ Status.ReadFault → I.faults input.new ≡ I.faults input.old }
-    ensures write_calm { result ≢ Status.WriteFault
-        → (O.faults out.new ≡ O.faults out.old) × (E.faults errs.new ≡ E.faults errs.old) }
+    ensures read_fault { result ≡ Status.ReadFault → CouldNotRead (map string_bytes words.now) (I.left input.old) (F.told files.old)
+        (counts (I.faults input.old) (F.fetch_faults files.old) (F.replace_faults files.old) (O.faults out.old) (E.faults errs.old))
+        (counts (I.faults input.new) (F.fetch_faults files.new) (F.replace_faults files.new) (O.faults out.new) (E.faults errs.new)) }
+    ensures write_fault { result ≡ Status.WriteFault → CouldNotWrite
+        (counts (I.faults input.old) (F.fetch_faults files.old) (F.replace_faults files.old) (O.faults out.old) (E.faults errs.old))
+        (counts (I.faults input.new) (F.fetch_faults files.new) (F.replace_faults files.new) (O.faults out.new) (E.faults errs.new)) }
+    ensures read_calm { result ≢ Status.ReadFault → ReadsAreCalm
+        (counts (I.faults input.old) (F.fetch_faults files.old) (F.replace_faults files.old) (O.faults out.old) (E.faults errs.old))
+        (counts (I.faults input.new) (F.fetch_faults files.new) (F.replace_faults files.new) (O.faults out.new) (E.faults errs.new)) }
+    ensures write_calm { result ≢ Status.WriteFault → WritesAreCalm
+        (counts (I.faults input.old) (F.fetch_faults files.old) (F.replace_faults files.old) (O.faults out.old) (E.faults errs.old))
+        (counts (I.faults input.new) (F.fetch_faults files.new) (F.replace_faults files.new) (O.faults out.new) (E.faults errs.new)) }
 
-    // A run that was cut short has written nothing, or a part of its outcome.
-    ensures nothing { (result ≡ Status.ReadFault) ⊎ (result ≡ Status.NoMemory)
-        → (O.written out.new ≡ O.written out.old) × (E.written errs.new ≡ E.written errs.old) }
+    // A run that was cut short has written what its first sources come to, and at `WriteFault` a part of it.
+    ensures stopped { (result ≡ Status.ReadFault) ⊎ (result ≡ Status.NoMemory) → (w : Outcome)
+        × IsBegun (map string_bytes words.now) (I.left input.old) (F.told files.old) w
+        × Appends (O.written out.old) w.out (O.written out.new)
+        × Appends (E.written errs.old) w.errs (E.written errs.new)
+        × (F.told files.new ≡ w.files) }
     ensures part { result ≡ Status.WriteFault → (w : Outcome) × (n : ℕ) × (m : ℕ)
-        × IsOutcome (map string_bytes words.now) (I.left input.old) w
+        × IsBegun (map string_bytes words.now) (I.left input.old) (F.told files.old) w
         × Appends (O.written out.old) (take n w.out) (O.written out.new)
-        × Appends (E.written errs.old) (take m w.errs) (E.written errs.new) }
+        × Appends (E.written errs.old) (take m w.errs) (E.written errs.new)
+        × (F.told files.new ≡ w.files) }
 
-    // Where all goes well, the command is done on each source that it accepts.
-    ensures complete { (contents : List ℕ) (command : Meant) → I.left input.old ≡ Some contents
-        → Accepts command contents → Mean (map string_bytes words.now) command
-        → ¬ Rose (I.faults input.old) (I.faults input.new)
-        → ¬ Rose (O.faults out.old) (O.faults out.new)
-        → ¬ Rose (E.faults errs.old) (E.faults errs.new)
-        → (result ≡ Status.Done) ⊎ (result ≡ Status.NoMemory) }
+    // Where all is told and no count rises, the status is that of every outcome, but for want of memory: each command is done
+    // on sources that it accepts, and a file that is missing is a `ReadFault`.
+    ensures complete { (w : Outcome) → IsOutcome (map string_bytes words.now) (I.left input.old) (F.told files.old) w → AreTold (map string_bytes words.now) (I.left input.old) (F.told files.old)
+        → NoneRose
+        (counts (I.faults input.old) (F.fetch_faults files.old) (F.replace_faults files.old) (O.faults out.old) (E.faults errs.old))
+        (counts (I.faults input.new) (F.fetch_faults files.new) (F.replace_faults files.new) (O.faults out.new) (E.faults errs.new))
+        → (result ≡ w.status) ⊎ (result ≡ Status.NoMemory) }
+    ensures missing { IsMissingAtTurn (map string_bytes words.now) (I.left input.old) (F.told files.old)
+        → NoneRose
+        (counts (I.faults input.old) (F.fetch_faults files.old) (F.replace_faults files.old) (O.faults out.old) (E.faults errs.old))
+        (counts (I.faults input.new) (F.fetch_faults files.new) (F.replace_faults files.new) (O.faults out.new) (E.faults errs.new))
+        → (result ≡ Status.ReadFault) ⊎ (result ≡ Status.NoMemory) }
     ensures other { (result ≢ Status.Differs) × (result ≢ Status.Config) }
-    ensures files { files.new ≡ files.old }
 {
-    match prepare(alloc, words, input) {
-        Ok(answer) => match write(&answer, out, errs) {
-            Ok(()) => answer.status,
+    match plan_of(alloc, words) {
+        Ok(plan) => take_turns(alloc, &plan, files, input, out, errs),
+        Err(NoPlan::Usage) => match write_all(errs, b"luafmt: Usage\n") {
+            Ok(()) => Status::Usage,
             Err(WriteErr::Fault) => Status::WriteFault,
         },
-        Err(Halt::ReadFault) => Status::ReadFault,
-        Err(Halt::NoMemory) => Status::NoMemory,
+        Err(NoPlan::NoMemory) => Status::NoMemory,
     }
-}
-
-// Writes an answer whole.
-fn write<O: Sink, E: Sink>(answer: &Answer, out: &mut O, errs: &mut E) -> Result<(), WriteErr>
-    ensures out { OnOk result (Appends (O.written out.old) answer.now.out (O.written out.new)) }
-    ensures errs { OnOk result (Appends (E.written errs.old) answer.now.errs (E.written errs.new)) }
-    ensures calm { OnOk result
-        ((O.faults out.new ≡ O.faults out.old) × (E.faults errs.new ≡ E.faults errs.old)) }
-    ensures part { OnErr result ((n : ℕ) × (m : ℕ)
-        × Appends (O.written out.old) (take n answer.now.out) (O.written out.new)
-        × Appends (E.written errs.old) (take m answer.now.errs) (E.written errs.new)) }
-    ensures fault { OnErr result
-        (Rose (O.faults out.old) (O.faults out.new) ⊎ Rose (E.faults errs.old) (E.faults errs.new)) }
-{
-    write_all(out, &answer.out)?;
-    write_all(errs, answer.errs.as_bytes())
 }

@@ -1,6 +1,7 @@
 //! How a run ends.
 ghost use Rattle.std.specs.Prelude.{◌≡◌};
 ghost use Rattle.luafmt.specs.Code.{code_of};
+ghost use Rattle.luafmt.specs.Outcome.{or_next};
 
 /// How a run ends.
 #[derive(Clone, Copy, Debug, PartialEq, Eq)]
@@ -37,6 +38,16 @@ impl Status {
             Status::WriteFault => 5,
             Status::NoMemory => 6,
             Status::Config => 7,
+        }
+    }
+
+    // The first of two statuses that is not `Done`.
+    pub(crate) fn or_next(self, next: Status) -> Status
+        ensures { result ≡ or_next self next }
+    {
+        match self {
+            Status::Done => next,
+            status => status,
         }
     }
 }

@@ -1,11 +1,19 @@
 use super::*;
-use luf_io::{Failed, MemSink, MemSource, Sink, Source};
+use luf_io::{Failed, FileFault, Files, MemFiles, MemSink, MemSource, Sink, Source};
 use std::alloc::Global;
+use std::collections::BTreeMap;
+use std::fs;
+use std::os::unix::fs::symlink;
 use std::test::Fail;
+use streams::{StreamSink, StreamSource};
 
+// The words between `|`.
 fn words_of(alloc: Global, line: &str) -> Result<Vec<String>, AllocError> {
     let mut words = Vec::new(alloc);
-    for word in line.split_whitespace() {
+    if line.is_empty() {
+        return Ok(words);
+    }
+    for word in line.split('|') {
         words.push(String::from_str(alloc, word)?)?;
     }
     Ok(words)
@@ -20,20 +28,38 @@ fn repeated(alloc: Global, front: &str, byte: u8, count: usize) -> Result<Vec<u8
     Ok(bytes)
 }
 
+// Files in memory, of which the call of this number fails.
+fn files_failing(alloc: Global, call: u64) -> Result<MemFiles, Fail> {
+    let mut held = BTreeMap::new(alloc);
+    for (name, text) in [
+        ("a.lua", "break"),
+        ("b.lua", "@"),
+        ("ok.lua", "x = 1"),
+        ("-", "y = 2"),
+        ("--help", "z = 3"),
+        ("a b\u{e9}", "("),
+    ] {
+        held.insert(
+            String::from_str(alloc, name)?,
+            text.as_bytes().to_vec(alloc)?,
+        )?;
+    }
+    Ok(MemFiles::new(alloc, held, vec![in alloc; call]?))
+}
+
 // What a run over objects in memory answers and writes.
-fn ran(alloc: Global, line: &str, source: &str) -> Result<(Status, MemSink, MemSink), Fail> {
+fn ran(
+    alloc: Global,
+    line: &str,
+    source: &str,
+    call: u64,
+) -> Result<(Status, MemSink, MemSink), Fail> {
     let words = words_of(alloc, line)?;
+    let mut files = files_failing(alloc, call)?;
     let mut input = MemSource::new(source.as_bytes().to_vec(alloc)?, 3, Vec::new(alloc));
     let mut out = MemSink::new(alloc, 100, 1, Vec::new(alloc))?;
     let mut errs = MemSink::new(alloc, 100, 4, Vec::new(alloc))?;
-    let status = run::run(
-        alloc,
-        &words,
-        &mut NoFiles::new(),
-        &mut input,
-        &mut out,
-        &mut errs,
-    );
+    let status = run::run(alloc, &words, &mut files, &mut input, &mut out, &mut errs);
     Ok((status, out, errs))
 }
 
@@ -90,9 +116,9 @@ fn rows(rt: HostRuntime) -> Result<(), Fail> {
         ("list", "x=1", Status::Refused, "", "-:0: BadHeader\n"),
         ("", "", Status::Usage, "", "luafmt: Usage\n"),
         ("format", "", Status::Usage, "", "luafmt: Usage\n"),
-        ("minify -", "", Status::Usage, "", "luafmt: Usage\n"),
+        ("check|--help", "", Status::Usage, "", "luafmt: Usage\n"),
     ] {
-        let (result, out, errs) = ran(alloc, line, source)?;
+        let (result, out, errs) = ran(alloc, line, source, 0)?;
         assert_eq!(rt; result, status, "{line} {source}");
         assert_eq!(rt; out.written(), text.as_bytes(), "{line} {source}");
         assert_eq!(rt; errs.written(), refusal.as_bytes(), "{line} {source}");
@@ -113,7 +139,7 @@ fn lexical_refusals(rt: HostRuntime) -> Result<(), Fail> {
         ("--[[", "-:1:1: OpenLong\n"),
         ("return x\r\n\n  [=[ ]] ", "-:3:3: OpenLong\n"),
     ] {
-        let (result, out, errs) = ran(alloc, "minify", source)?;
+        let (result, out, errs) = ran(alloc, "minify", source, 0)?;
         assert_eq!(rt; result, Status::Refused, "{source}");
         assert_eq!(rt; out.written(), b"".as_slice(), "{source}");
         assert_eq!(rt; errs.written(), refusal.as_bytes(), "{source}");
@@ -140,13 +166,93 @@ fn limits(rt: HostRuntime) -> Result<(), Fail> {
         let result = run::run(
             alloc,
             &words,
-            &mut NoFiles::new(),
+            &mut files_failing(alloc, 0)?,
             &mut input,
             &mut out,
             &mut errs,
         );
         assert_eq!(rt; result, status, "{count}");
         assert_eq!(rt; errs.written(), refusal.as_bytes(), "{count}");
+    }
+    Ok(())
+}
+
+// Files by name, in order, and the status of the first that is not `Done`.
+#[test]
+fn files(rt: HostRuntime) -> Result<(), Fail> {
+    let alloc = rt.alloc();
+    let both = "a.lua:1:1: BreakOutside\nb.lua:1:1: NoToken\n";
+    for (line, call, status, text, refusals) in [
+        ("minify|ok.lua", 0, Status::Done, "x=1", ""),
+        ("check|ok.lua|ok.lua", 0, Status::Done, "", ""),
+        ("check|a.lua|b.lua", 0, Status::Refused, "", both),
+        (
+            "check|a.lua|ok.lua|b.lua|ok.lua",
+            0,
+            Status::Refused,
+            "",
+            both,
+        ),
+        (
+            "check|a b\u{e9}",
+            0,
+            Status::Refused,
+            "",
+            "a b\u{e9}:1:2: Syntax\n",
+        ),
+        ("minify|-", 0, Status::Done, "y=2", ""),
+        ("minify|--|--help", 0, Status::Done, "z=3", ""),
+        (
+            "minify|ok.lua|ok.lua",
+            0,
+            Status::Usage,
+            "",
+            "luafmt: Usage\n",
+        ),
+        (
+            "check|--none|ok.lua",
+            0,
+            Status::Usage,
+            "",
+            "luafmt: Usage\n",
+        ),
+        (
+            "list|ok.lua",
+            0,
+            Status::Refused,
+            "",
+            "ok.lua:0: BadHeader\n",
+        ),
+        ("check|", 0, Status::ReadFault, "", ""),
+        ("check|ok.lua|no.lua|a.lua", 0, Status::ReadFault, "", ""),
+        (
+            "check|a.lua|no.lua|b.lua",
+            0,
+            Status::ReadFault,
+            "",
+            "a.lua:1:1: BreakOutside\n",
+        ),
+        ("check|a.lua|ok.lua|b.lua", 1, Status::ReadFault, "", ""),
+        (
+            "check|a.lua|ok.lua|b.lua",
+            2,
+            Status::ReadFault,
+            "",
+            "a.lua:1:1: BreakOutside\n",
+        ),
+        (
+            "check|a.lua|ok.lua|b.lua",
+            3,
+            Status::ReadFault,
+            "",
+            "a.lua:1:1: BreakOutside\n",
+        ),
+        ("check|a.lua|ok.lua|b.lua", 4, Status::Refused, "", both),
+    ] {
+        let (result, out, errs) = ran(alloc, line, "", call)?;
+        assert_eq!(rt; result, status, "{line} {call}");
+        assert_eq!(rt; out.written(), text.as_bytes(), "{line} {call}");
+        assert_eq!(rt; errs.written(), refusals.as_bytes(), "{line} {call}");
     }
     Ok(())
 }
@@ -168,7 +274,7 @@ fn faults(rt: HostRuntime) -> Result<(), Fail> {
         let result = run::run(
             alloc,
             &words,
-            &mut NoFiles::new(),
+            &mut files_failing(alloc, 0)?,
             &mut input,
             &mut out,
             &mut errs,
@@ -202,4 +308,37 @@ fn standard_streams(rt: HostRuntime) {
     assert_eq!(rt; StreamSource::new(rt.stdin()).pull(&mut [0; 8]), Ok(0));
     assert_eq!(rt; StreamSink::new(rt.stdout()).put(b""), Ok(0));
     assert_eq!(rt; StreamSink::new(rt.stderr()).put(b""), Ok(0));
+}
+
+// A file of the system, behind a link: it is read within a limit, and replaced whole under the permissions that it has.
+#[test]
+fn files_of_the_system(rt: HostRuntime) -> Result<(), Fail> {
+    let alloc = rt.alloc();
+    let mut files = DiskFiles::new(&rt);
+    let mut into = Vec::new(alloc);
+    fs::write(&rt, "luafmt_test.lua", "x = 1")?;
+    symlink(&rt, "luafmt_test.lua", "luafmt_test_link.lua")?;
+    let before = fs::metadata(&rt, "luafmt_test.lua")?.permissions();
+    for (most, wanted) in [(5, Ok(true)), (4, Ok(false))] {
+        assert_eq!(rt;
+            files.fetch(alloc, "luafmt_test_link.lua", most, &mut into),
+            wanted
+        );
+        assert_eq!(rt; into.as_slice(), b"x = 1".as_slice());
+    }
+    let replaced = files.replace(alloc, "luafmt_test_link.lua", b"y = 2");
+    assert_eq!(rt; replaced, Ok(()));
+    let text = fs::read(&rt, "luafmt_test.lua")?;
+    assert_eq!(rt; text.as_slice(), b"y = 2".as_slice());
+    let after = fs::metadata(&rt, "luafmt_test.lua")?.permissions();
+    assert!(rt; before == after);
+    assert!(rt; fs::symlink_metadata(&rt, "luafmt_test_link.lua")?.is_symlink());
+    assert!(rt; !fs::exists(&rt, "luafmt_test.lua.luafmt0")?);
+    fs::remove_file(&rt, "luafmt_test_link.lua")?;
+    fs::remove_file(&rt, "luafmt_test.lua")?;
+    let missing = files.fetch(alloc, "luafmt_test.lua", 5, &mut into);
+    assert_eq!(rt; missing, Err(FileFault::Failed));
+    let missing = files.replace(alloc, "luafmt_test.lua", b"");
+    assert_eq!(rt; missing, Err(FileFault::Failed));
+    Ok(())
 }

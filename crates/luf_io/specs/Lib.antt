@@ -1,6 +1,6 @@
 pub mod Count
-pub mod FileFaults
 pub mod Files
+pub mod MemFiles
 pub mod Read
 pub mod Sink
 pub mod Source

@@ -1,13 +1,11 @@
 //! Files by name.
-ghost use Rattle.std.specs.Prelude.{◌≡◌, ℕ, List, Option, option_map};
+ghost use Rattle.std.specs.Prelude.{◌≡◌, ℕ, Option, option_map};
 ghost use Rattle.std.specs.Prelude.{IfOk, OnOk, OnErr, MatchBool};
 ghost use Rattle.std.specs.Bool.{OnFalse};
 ghost use Rattle.std.specs.FinMap.{insert};
-ghost use Rattle.luf_io.specs.Count.{Rose, next_count};
 ghost use Rattle.luf_io.specs.Files.{FileMap, AppendsFile, IsTooLong, CountsFetch, CountsReplace};
 
 use std::alloc::Global;
-use std::marker::Model;
 
 /// Why a call on files gave no answer.
 #[derive(Clone, Copy, Debug, PartialEq, Eq)]
@@ -64,68 +62,4 @@ pub trait Files {
         ensures err { OnErr result (told self.new ≡ told self.old) }
         ensures counted { CountsReplace result (replace_faults self.old) (replace_faults self.new) }
         ensures other { fetch_faults self.new ≡ fetch_faults self.old };
-}
-
-/// No files at all: each call fails.
-#[derive(Debug, Drop)]
-pub struct NoFiles {
-    fetches: u64,
-    replaces: u64,
-}
-
-impl Model for NoFiles {
-    ghost use Rattle.luf_io.specs.FileFaults.{FileFaults};
-
-    ghost Value = { FileFaults };
-
-    ghost view = { λ f. record { fetches = f.fetches; replaces = f.replaces } };
-}
-
-impl NoFiles {
-    /// No call has failed yet.
-    pub fn new() -> NoFiles
-        ensures { result ≡ record { fetches = 0; replaces = 0 } }
-    {
-        NoFiles {
-            fetches: 0,
-            replaces: 0,
-        }
-    }
-}
-
-impl Files for NoFiles {
-    ghost use Rattle.std.specs.Prelude.{None};
-
-    ghost fetch_faults = { λ f. f.fetches };
-
-    ghost replace_faults = { λ f. f.replaces };
-
-    ghost told = { λ _. None };
-
-    /// Fails, and counts it.
-    fn fetch(
-        &mut self,
-        _alloc: Global,
-        _name: &str,
-        _most: usize,
-        into: &mut Vec<u8>,
-    ) -> Result<bool, FileFault>
-        ensures refused { result ≡ Err FileFault.Failed }
-        ensures counted { self.new ≡ record self.old { fetches = next_count self.old.fetches } }
-        ensures rose { Rose self.old.fetches self.new.fetches }
-        ensures kept { into.new.items ≡ into.old.items }
-    {
-        self.fetches = self.fetches.saturating_add(1);
-        Err(FileFault::Failed)
-    }
-
-    /// Fails, and counts it.
-    fn replace(&mut self, _alloc: Global, _name: &str, _bytes: &[u8]) -> Result<(), FileFault>
-        ensures refused { result ≡ Err FileFault.Failed }
-        ensures counted { self.new ≡ record self.old { replaces = next_count self.old.replaces } }
-        ensures rose { Rose self.old.replaces self.new.replaces }
-    {
-        self.replaces = self.replaces.saturating_add(1);
-        Err(FileFault::Failed)
-    }
 }

@@ -4,13 +4,15 @@
 #![tactic(auto)]
 
 mod files;
+mod mem_files;
 mod read;
 mod sink;
 mod source;
 mod write;
 
-pub use files::{FileFault, Files, NoFiles};
+pub use files::{FileFault, Files};
 pub use luf_memory::Memory;
+pub use mem_files::MemFiles;
 pub use read::{ReadErr, read_all};
 pub use sink::{MemSink, Sink};
 pub use source::{MemSource, Source};

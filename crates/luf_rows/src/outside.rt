@@ -1,8 +1,9 @@
-//! The outside in memory: reads, writes, and files that are not there.
+//! The outside in memory: reads, writes, and files.
 
 use luf_io::{
-    FileFault, Files, MemSink, MemSource, NoFiles, ReadErr, WriteErr, read_all, write_all,
+    FileFault, Files, MemFiles, MemSink, MemSource, ReadErr, WriteErr, read_all, write_all,
 };
+use std::collections::BTreeMap;
 use std::test::Fail;
 
 const TEXT: &[u8] = b"print(1, 2)";
@@ -68,18 +69,28 @@ fn a_write_stops_at_a_fault(rt: HostRuntime) -> Result<(), Fail> {
     Ok(())
 }
 
+// A file that is there, one that is not, and the fourth call fails.
 #[test]
-fn no_files(rt: HostRuntime) -> Result<(), Fail> {
+fn files_in_memory(rt: HostRuntime) -> Result<(), Fail> {
     let alloc = rt.alloc();
-    let mut files = NoFiles::new();
-    let mut into = Vec::new(alloc);
-    assert_eq!(rt;
-        files.fetch(alloc, "luf.toml", 10, &mut into),
-        Err(FileFault::Failed)
-    );
-    assert_eq!(rt;
-        files.replace(alloc, "luf.toml", TEXT),
-        Err(FileFault::Failed)
-    );
+    let mut held = BTreeMap::new(alloc);
+    held.insert(String::from_str(alloc, "a.lua")?, TEXT.to_vec(alloc)?)?;
+    let mut files = MemFiles::new(alloc, held, vec![in alloc; 4]?);
+    let mut into = b"> ".to_vec(alloc)?;
+    for (name, most, wanted) in [
+        ("a.lua", TEXT.len(), Ok(true)),
+        ("a.lua", TEXT.len() - 1, Ok(false)),
+        ("b.lua", 100, Err(FileFault::Failed)),
+    ] {
+        assert_eq!(rt; files.fetch(alloc, name, most, &mut into), wanted);
+        assert_eq!(rt; into.as_slice(), b"> print(1, 2)".as_slice());
+    }
+    let failed = files.replace(alloc, "a.lua", b"x");
+    assert_eq!(rt; failed, Err(FileFault::Failed));
+    assert_eq!(rt; files.file("a.lua"), Some(TEXT));
+    files.replace(alloc, "a.lua", b"x").unwrap_or(());
+    files.replace(alloc, "b.lua", b"y").unwrap_or(());
+    assert_eq!(rt; files.file("a.lua"), Some(b"x".as_slice()));
+    assert_eq!(rt; files.file("b.lua"), Some(b"y".as_slice()));
     Ok(())
 }

@@ -1,0 +1,129 @@
+//! The sources of a plan, one after another.
+ghost use Rattle.std.specs.Prelude.{◌≡◌, ◌≢◌, ◌⊎◌, ◌∷◌, ℕ, List, [], map, take, Option, IfOk, IfErr, OnOk, OnErr};
+ghost use Rattle.luf_io.specs.Count.{Rose};
+ghost use Rattle.luf_io.specs.Files.{FileMap};
+ghost use Rattle.luf_io.specs.Sink.{Appends};
+ghost use Rattle.luafmt.specs.Counts.{counts};
+ghost use Rattle.luafmt.specs.Outcome.{input as of_input, file, or_next, origins};
+ghost use Rattle.luafmt.specs.inner.Ended.{world, Through, Halted, Ended};
+
+use crate::answer::{Answer, Halt, answer_file, answer_input};
+use crate::command::Command;
+use crate::plan::Plan;
+use crate::status::Status;
+use luf_io::{Files, Sink, Source, WriteErr, write_all};
+use std::alloc::Global;
+
+// Takes the sources of a plan in turn, and answers how the run ends.
+pub(crate) fn take_turns<F: Files, I: Source, O: Sink, E: Sink>(
+    alloc: Global,
+    plan: &Plan,
+    files: &mut F,
+    input: &mut I,
+    out: &mut O,
+    errs: &mut E,
+) -> Status
+    ensures ended { Ended plan.now.command (I.left input.old) (origins (map (λ s. s.now) plan.now.files.items))
+        (world (F.told files.old) (O.written out.old) (E.written errs.old) (counts (I.faults input.old) (F.fetch_faults files.old) (F.replace_faults files.old) (O.faults out.old) (E.faults errs.old)))
+        (world (F.told files.new) (O.written out.new) (E.written errs.new) (counts (I.faults input.new) (F.fetch_faults files.new) (F.replace_faults files.new) (O.faults out.new) (E.faults errs.new)))
+        result }
+    ensures named { map (λ s. s.now) plan.now.files.items ≢ [] → input.new ≡ input.old }
+    ensures unnamed { map (λ s. s.now) plan.now.files.items ≡ [] → files.new ≡ files.old }
+{
+    let names = plan.files.as_slice();
+    if names.is_empty() {
+        return take_input(alloc, plan.command, input, out, errs);
+    }
+    take_files(alloc, plan.command, names, files, out, errs)
+}
+
+// The turn of the input alone. Files are not touched: whatever they tell and count, stays.
+fn take_input<I: Source, O: Sink, E: Sink>(
+    alloc: Global,
+    command: Command,
+    input: &mut I,
+    out: &mut O,
+    errs: &mut E,
+) -> Status
+    ensures { (told : Option FileMap) (fetches replaces : ℕ) → Ended command (I.left input.old) (of_input ∷ [])
+        (world told (O.written out.old) (E.written errs.old) (counts (I.faults input.old) fetches replaces (O.faults out.old) (E.faults errs.old)))
+        (world told (O.written out.new) (E.written errs.new) (counts (I.faults input.new) fetches replaces (O.faults out.new) (E.faults errs.new)))
+        result }
+{
+    match answer_input(alloc, command, input) {
+        Ok(answer) => match write(&answer, out, errs) {
+            Ok(()) => answer.status,
+            Err(WriteErr::Fault) => Status::WriteFault,
+        },
+        Err(Halt::Fault) => Status::ReadFault,
+        Err(Halt::NoMemory) => Status::NoMemory,
+    }
+}
+
+// The turns of files.
+fn take_files<F: Files, O: Sink, E: Sink>(
+    alloc: Global,
+    command: Command,
+    names: &[&str],
+    files: &mut F,
+    out: &mut O,
+    errs: &mut E,
+) -> Status
+    ensures { (left : Option (List ℕ)) (faults : ℕ) → Ended command left (map file (map (λ s. s.now) names.now))
+        (world (F.told files.old) (O.written out.old) (E.written errs.old) (counts faults (F.fetch_faults files.old) (F.replace_faults files.old) (O.faults out.old) (E.faults errs.old)))
+        (world (F.told files.new) (O.written out.new) (E.written errs.new) (counts faults (F.fetch_faults files.new) (F.replace_faults files.new) (O.faults out.new) (E.faults errs.new)))
+        result }
+{
+    let mut status = Status::Done;
+    for name in names {
+        match take_file(alloc, command, name, files, out, errs) {
+            Ok(next) => status = status.or_next(next),
+            Err(end) => return end,
+        }
+    }
+    status
+}
+
+// The turn of one file. On `Err` the run is to end at once, with this status.
+fn take_file<F: Files, O: Sink, E: Sink>(
+    alloc: Global,
+    command: Command,
+    name: &str,
+    files: &mut F,
+    out: &mut O,
+    errs: &mut E,
+) -> Result<Status, Status>
+    ensures ok { IfOk result (λ status. (left : Option (List ℕ)) (faults : ℕ) → Through command left (file name.now ∷ [])
+        (world (F.told files.old) (O.written out.old) (E.written errs.old) (counts faults (F.fetch_faults files.old) (F.replace_faults files.old) (O.faults out.old) (E.faults errs.old)))
+        (world (F.told files.new) (O.written out.new) (E.written errs.new) (counts faults (F.fetch_faults files.new) (F.replace_faults files.new) (O.faults out.new) (E.faults errs.new)))
+        status) }
+    ensures err { IfErr result (λ status. (left : Option (List ℕ)) (faults : ℕ) → Halted command left (file name.now ∷ [])
+        (world (F.told files.old) (O.written out.old) (E.written errs.old) (counts faults (F.fetch_faults files.old) (F.replace_faults files.old) (O.faults out.old) (E.faults errs.old)))
+        (world (F.told files.new) (O.written out.new) (E.written errs.new) (counts faults (F.fetch_faults files.new) (F.replace_faults files.new) (O.faults out.new) (E.faults errs.new)))
+        status) }
+{
+    match answer_file(alloc, command, name, files) {
+        Ok(answer) => match write(&answer, out, errs) {
+            Ok(()) => Ok(answer.status),
+            Err(WriteErr::Fault) => Err(Status::WriteFault),
+        },
+        Err(Halt::Fault) => Err(Status::ReadFault),
+        Err(Halt::NoMemory) => Err(Status::NoMemory),
+    }
+}
+
+// Writes an answer whole.
+fn write<O: Sink, E: Sink>(answer: &Answer, out: &mut O, errs: &mut E) -> Result<(), WriteErr>
+    ensures out { OnOk result (Appends (O.written out.old) answer.now.out (O.written out.new)) }
+    ensures errs { OnOk result (Appends (E.written errs.old) answer.now.errs (E.written errs.new)) }
+    ensures calm { OnOk result
+        ((O.faults out.new ≡ O.faults out.old) × (E.faults errs.new ≡ E.faults errs.old)) }
+    ensures part { OnErr result ((n : ℕ) × (m : ℕ)
+        × Appends (O.written out.old) (take n answer.now.out) (O.written out.new)
+        × Appends (E.written errs.old) (take m answer.now.errs) (E.written errs.new)) }
+    ensures fault { OnErr result
+        (Rose (O.faults out.old) (O.faults out.new) ⊎ Rose (E.faults errs.old) (E.faults errs.new)) }
+{
+    write_all(out, &answer.out)?;
+    write_all(errs, answer.errs.as_bytes())
+}
