@@ -28,10 +28,7 @@ const NAMES: [(&str, &str); 24] = [
         "function f(self) return self end",
         "function f(a)return a end",
     ),
-    (
-        "local _ENV={} y=1 local z=y",
-        "local _ENV={}y=1 local a=y",
-    ),
+    ("local _ENV={} y=1 local z=y", "local _ENV={}y=1 local a=y"),
     ("for _ENV,k in f do x=k end", "for _ENV,a in f do x=a end"),
     // Names that are in use together differ, and others are the first again.
     ("local x local y", "local a local a"),
@@ -49,38 +46,26 @@ const NAMES: [(&str, &str); 24] = [
         "local function f(n) return f(n) end",
         "local function a(b)return a(b)end",
     ),
-    (
-        "for i=1,i do local j=i end",
-        "for a=1,i do local a=a end",
-    ),
+    ("for i=1,i do local j=i end", "for a=1,i do local a=a end"),
     (
         "repeat local x=f() until x local y",
         "repeat local a=f()until a local a",
     ),
     // Fields and methods keep theirs.
-    (
-        "local t={t=1} t.t=t:t(t.t)",
-        "local a={t=1}a.t=a:t(a.t)",
-    ),
+    ("local t={t=1} t.t=t:t(t.t)", "local a={t=1}a.t=a:t(a.t)"),
     (
         "local x<const> =1 local y<close> =x return x,y",
         "local a<const> =1 local b<close> =a return a,b",
     ),
     // Labels have names of their own.
     ("::x:: do ::y:: goto x end", "::a::do::b::goto a end"),
-    (
-        "do ::x:: end ::y:: goto y",
-        "do::a::end::b::goto b",
-    ),
+    ("do ::x:: end ::y:: goto y", "do::a::end::b::goto b"),
     (
         "::x:: function f() ::y:: goto y end goto x",
         "::a::function f()::a::goto a end goto a",
     ),
     ("::_ENV:: ::self::", "::a::::b::"),
-    (
-        "local x goto x ::x:: f(x)",
-        "local a goto a::a::f(a)",
-    ),
+    ("local x goto x ::x:: f(x)", "local a goto a::a::f(a)"),
 ];
 
 /// Each source with its text.
@@ -93,7 +78,10 @@ const FORMS: [(&str, &str); 23] = [
     ("do (f)() end", "do(f)()end"),
     ("do ;;(f)() end", "do(f)()end"),
     ("do end (f)()", "do end;(f)()"),
-    ("if x then (f)() else (g)() end", "if x then(f)()else(g)()end"),
+    (
+        "if x then (f)() else (g)() end",
+        "if x then(f)()else(g)()end",
+    ),
     ("return (f)();", "return(f)()"),
     ("t={1;2,3;}", "t={1,2,3}"),
     ("f(\"x\") f({}) f([[x]])", "f\"x\"f{}f[[x]]"),

@@ -91,12 +91,7 @@ struct Meanings {
 }
 
 /// What the names and the labels of a source are, or the place of its first scope fault.
-fn meanings_of(
-    alloc: Global,
-    src: &[u8],
-    pieces: &Cut,
-    chunk: &Chunk,
-) -> Result<Meanings, Refusal>
+fn meanings_of(alloc: Global, src: &[u8], pieces: &Cut, chunk: &Chunk) -> Result<Meanings, Refusal>
     requires within { length src.now ≤ source_limit }
     requires source { IsSource src.now pieces.now chunk.now }
     ensures links { IfOk result (λ m. AreLinks (spelling_in src.now pieces.now) (occurrences_of chunk.now) (length (toks_of pieces.now)) m.links) }
