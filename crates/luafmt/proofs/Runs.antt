@@ -1,8 +1,7 @@
 -- What a run comes to, from the plan of its words and the end of its turns.
-use Rattle.std.proofs.Common.{◌≡◌, ◌≢◌, ◌⊎◌, inl, inr, ℕ, suc, ◌<◌, ◌≤◌, List, [], ◌∷◌, ◌++◌, map, length, take, codes, Option, Some, None, IsSome, refl, sym, ap, ap₂, ◌∙◌, subst, append-nil, arith}
+use Rattle.std.proofs.Common.{◌≡◌, ◌≢◌, ◌⊎◌, inl, inr, ℕ, suc, ◌≤◌, List, [], ◌∷◌, ◌++◌, map, length, take, Option, Some, None, IsSome, refl, sym, ap, ap₂, ◌∙◌, subst, append-nil, arith}
 use Rattle.std.specs.List.{All}
 use Rattle.std.specs.FinMap.{get}
-use Rattle.luf_io.specs.Count.{Rose}
 use Rattle.luf_io.specs.Files.{FileMap, IsMissing}
 use Rattle.luf_io.specs.Sink.{Appends}
 use Rattle.luf_work.specs.Minify.{KeepsProgram}
@@ -10,15 +9,15 @@ use Rattle.luf_work.specs.declared.refusal.Refusal.{Refusal}
 use Rattle.luf_work.proofs.MinifyLemmas.{keeps_program}
 use Rattle.luf_work.proofs.RefusalLemmas.{accepted_not_refused, source_not_refused}
 use Rattle.luf_work.proofs.ListLemmas.{list_accepted_not_refused}
-use Rattle.luafmt.specs.Command.{command_word, TakesFiles, Accepts, Writes, Refuses}
+use Rattle.luafmt.specs.Command.{command_word, TakesFiles, Writes, Refuses}
 use Rattle.luafmt.specs.Counts.{Counts, CouldNotRead, of_input, of_fetch, of_missing, CouldNotWrite, of_out, of_errs, ReadsAreCalm, WritesAreCalm, NoneRose}
-use Rattle.luafmt.specs.Outcome.{Origin, input, file, name_of, Holds, IsTold, Turn, Comes, refused, done, rewritten_by, InTurn, no_more, one_more, origins, or_next, status_of, out_of, errs_of, Outcome, outcome_of, IsOutcome, of_usage, of_turns, IsBegun, begun_turns, AreTold, IsMissingAtTurn, RanThrough}
+use Rattle.luafmt.specs.Outcome.{Origin, input, file, name_of, Holds, IsTold, Turn, Comes, refused, done, rewritten_by, InTurn, no_more, one_more, origins, or_next, status_of, out_of, Outcome, outcome_of, IsOutcome, of_usage, of_turns, IsBegun, begun_turns, AreTold, IsMissingAtTurn, RanThrough}
 use Rattle.luafmt.specs.Plan.{Plan, Mean, AreNoCommand, files_in}
 use Rattle.luafmt.specs.declared.command.Command.{Command}
 use Rattle.luafmt.specs.declared.command.Command.TheVariants as command
 use Rattle.luafmt.specs.declared.status.Status.{Status}
 use Rattle.luafmt.specs.declared.status.Status.TheVariants.{Done, Differs, Usage, Refused, ReadFault, WriteFault, NoMemory, Config}
-use Rattle.luafmt.specs.inner.Ended.{World, Through, CannotRead, Unread, Starved, Unwritten, Halted, unread, starved, unwritten, Ended}
+use Rattle.luafmt.specs.inner.Ended.{World, Through, CannotRead, unread, starved, unwritten, Ended}
 use Rattle.luafmt.proofs.Turns.{turn_kept, told_kept}
 
 -- ---- words

@@ -1,5 +1,5 @@
 -- How the turns of some sources end, between two states of what a run acts on.
-use Rattle.std.specs.Prelude.{◌≡◌, ◌⊎◌, ℕ, List, [], ◌∷◌, ◌++◌, take, Option}
+use Rattle.std.specs.Prelude.{◌≡◌, ◌⊎◌, ℕ, List, ◌∷◌, ◌++◌, take, Option}
 use Rattle.luf_io.specs.Count.{Rose}
 use Rattle.luf_io.specs.Files.{FileMap, IsMissing}
 use Rattle.luf_io.specs.Sink.{Appends}

@@ -1,4 +1,4 @@
-use Rattle.std.proofs.Common.{rules, ◌≡◌, [], List, ℕ, map, ap, ap₂, ◌∙◌}
+use Rattle.std.proofs.Common.{rules, ◌≡◌, map, ap, ap₂, ◌∙◌}
 use Rattle.clap.specs.Simple.{app_of, new_app, with_rule}
 use Rattle.luafmt.specs.Plan.{simple_command}
 use Rattle.luafmt.proofs.SimpleCommand.{ranged, taken_by, refused_by, files_by, some_read, none_read}

@@ -1,4 +1,4 @@
-use Rattle.std.proofs.Common.{◌≡◌, ◌⊎◌, inl, inr, [], map, Err, refl, ap, ◌∙◌}
+use Rattle.std.proofs.Common.{inl, [], map, Err, refl, ap, ◌∙◌}
 use Rattle.luafmt.specs.Outcome.{outcome_of, usage_outcome, of_usage, begun_nothing, begun_usage}
 use Rattle.luafmt.proofs.Turns.{nothing_put}
 use Rattle.luafmt.proofs.Runs.{outcome_ended, other_ended, read_fault_ended, write_fault_ended, read_calm_ended, write_calm_ended, stopped_ended, part_ended, complete_ended, missing_ended, text_ended, usage_complete}

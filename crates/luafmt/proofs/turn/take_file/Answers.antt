@@ -1,4 +1,4 @@
-use Rattle.std.proofs.Common.{rules, ◌≡◌, ◌⊎◌, ◌∷◌, [], ℕ, List, refl, sym, ap, subst}
+use Rattle.std.proofs.Common.{rules, ◌≡◌, ◌⊎◌, refl, ap}
 use Rattle.luf_io.specs.Count.{Rose}
 use Rattle.luf_io.specs.Files.{IsMissing}
 use Rattle.luafmt.specs.Outcome.{file, Turn}

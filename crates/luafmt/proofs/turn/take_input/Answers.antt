@@ -1,4 +1,4 @@
-use Rattle.std.proofs.Common.{rules, ◌≡◌, inl, inr, ◌∷◌, [], ℕ, List, refl, sym, ap, subst}
+use Rattle.std.proofs.Common.{rules, ◌≡◌, inl, inr, refl, ap}
 use Rattle.luf_io.specs.Count.{Rose}
 use Rattle.luafmt.specs.Outcome.{input, Turn}
 use Rattle.luafmt.proofs.Sources.{same_counts, could_not_write}
