@@ -1,1 +1,5 @@
+pub mod Draft
+pub mod Filled
+pub mod Form
+pub mod Gaps
 pub mod inner
