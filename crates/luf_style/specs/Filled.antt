@@ -1,5 +1,5 @@
 -- A draft with the comments of its gaps: the document. Rules of our own.
-use Rattle.std.specs.Prelude.{◌≡◌, ℕ, Bool, true, false, ◌||◌, cond, Option, Some, None, List, [], ◌∷◌, map}
+use Rattle.std.specs.Prelude.{◌≡◌, ℕ, Bool, true, false, ◌||◌, cond, List, [], ◌∷◌, map}
 use Rattle.luf_doc.specs.declared.doc.Chance.{Chance}
 use Rattle.luf_doc.specs.declared.doc.Chance.TheVariants.{Tight, Space, Hard}
 use Rattle.luf_doc.specs.declared.doc.Gap.{Gap}
@@ -20,17 +20,18 @@ without_blank note = record note { blank = false }
 abbrev pub unspaced : GapNotes → GapNotes
 unspaced gap = record { notes = map without_blank gap.notes; blank = false }
 
--- none before the first break: it stands before a note of its own line or behind one that ends its line, or behind all
-abbrev pub first_unspaced : Bool → List Remark → Bool → List Remark
-first_unspaced ends [] blank = []
-first_unspaced ends (note ∷ notes) blank = cond (note.own_line || ends) (without_blank note ∷ notes) (note ∷ first_unspaced note.ends_line notes blank)
+-- None before the first break. It stands before the first note that is of its own line or stands behind one that ends its
+-- line, and behind all notes where there is no such note. `ends`: the note before these ends its line.
+abbrev pub first_unspaced : Bool → List Remark → List Remark
+first_unspaced ends [] = []
+first_unspaced ends (note ∷ notes) = cond (note.own_line || ends) (without_blank note ∷ notes) (note ∷ first_unspaced note.ends_line notes)
 
 abbrev pub breaks_early : Bool → List Remark → Bool
 breaks_early ends [] = false
 breaks_early ends (note ∷ notes) = note.own_line || ends || breaks_early note.ends_line notes
 
 abbrev pub start_unspaced : GapNotes → GapNotes
-start_unspaced gap = record { notes = first_unspaced false gap.notes gap.blank; blank = cond (breaks_early false gap.notes) gap.blank false }
+start_unspaced gap = record { notes = first_unspaced false gap.notes; blank = cond (breaks_early false gap.notes) gap.blank false }
 
 -- none directly before what ends a block
 abbrev pub end_unspaced : GapNotes → GapNotes

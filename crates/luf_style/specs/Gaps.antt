@@ -1,6 +1,6 @@
 -- The comments of a source in the gaps of its program: those between two significant tokens, also round the tokens that its
 -- document drops, with the empty lines there. Rules of our own.
-use Rattle.std.specs.Prelude.{ℕ, zero, suc, ◌+◌, ◌-◌, Bool, true, false, not, ◌||◌, cond, List, [], ◌∷◌, ◌++◌, length, reverse, drop, take, slice_range}
+use Rattle.std.specs.Prelude.{ℕ, zero, suc, ◌+◌, ◌-◌, Bool, true, false, not, ◌||◌, cond, List, [], ◌∷◌, ◌++◌, length, drop, take, slice_range}
 use Rattle.std.specs.List.{suffix_len}
 use Rattle.luf_byte.specs.Class.{is_blank}
 use Rattle.luf_str.specs.LongEnd.{opens_long}

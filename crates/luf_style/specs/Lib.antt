@@ -2,4 +2,5 @@ pub mod Draft
 pub mod Filled
 pub mod Form
 pub mod Gaps
+pub mod Styled
 pub mod inner
