@@ -7,5 +7,6 @@ pub mod LayArms
 pub mod TestLemmas
 pub mod Openings
 pub mod Fill
+pub mod FilledLaws
 pub mod ExamplePrograms
 pub mod StyleExamples
