@@ -1,5 +1,5 @@
 -- What small programs are made of, and their text.
-use Rattle.std.proofs.Common.{◌≡◌, ℕ, Bool, true, false, Option, Some, None, List, [], ◌∷◌, ◌++◌, codes, replicate}
+use Rattle.std.proofs.Common.{ℕ, Bool, true, false, None, List, [], ◌∷◌, ◌++◌, codes, replicate}
 use Rattle.std.specs.Prelude.{◌&&◌, bytes_eq}
 use Rattle.luf_doc.specs.declared.doc.Remark.{Remark}
 use Rattle.luf_doc.specs.declared.page.Page.{Page}

@@ -1,5 +1,5 @@
 -- A draft filled by a function, where another tells which texts need a space between them.
-use Rattle.std.proofs.Common.{◌≡◌, ℕ, ◌+◌, ◌≤◌, Bool, true, false, cond, List, [], ◌∷◌, length, drop, refl}
+use Rattle.std.proofs.Common.{ℕ, Bool, true, false, List, [], ◌∷◌, drop}
 use Rattle.luf_doc.specs.declared.doc.Chance.{Chance}
 use Rattle.luf_doc.specs.declared.doc.Chance.TheVariants.{Tight, Space, Soft, Line, Hard}
 use Rattle.luf_doc.specs.declared.doc.Gap.{Gap}
@@ -9,8 +9,8 @@ use Rattle.luf_doc.specs.Document as document
 use Rattle.luf_style.specs.Draft.{Draft, Drafts, Border, Opening}
 use Rattle.luf_style.specs.Draft as draft
 use Rattle.luf_style.specs.Gaps.{GapNotes, empty_gap}
-use Rattle.luf_style.specs.Filled.{bordered, first_text, first_of_all, last_text, last_of_all}
-use Rattle.luf_style.proofs.Openings.{openings, all_openings}
+use Rattle.luf_style.specs.Filled.{bordered, first_of_all, last_text}
+use Rattle.luf_style.proofs.Openings.{openings}
 
 -- the chance of a gap without notes, whose texts need a space or not
 abbrev pub plain_chance : Bool → Chance → Chance

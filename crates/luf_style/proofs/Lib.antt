@@ -10,3 +10,4 @@ pub mod Fill
 pub mod FilledLaws
 pub mod ExamplePrograms
 pub mod StyleExamples
+pub mod SourceExamples

@@ -1,5 +1,5 @@
 -- How many gaps a draft has.
-use Rattle.std.proofs.Common.{ℕ, ◌+◌, List, [], ◌∷◌}
+use Rattle.std.proofs.Common.{ℕ, ◌+◌}
 use Rattle.luf_style.specs.Draft.{Draft, Drafts, word, opening, trail, nest, group, sequence, nothing, also}
 
 abbrev mutual

@@ -232,7 +232,7 @@ module _ (string_has table_has : Bool → Bool) where
     statement (syntax.if_statement _ parts last) = pieces (word (codes "if") ∷ arms parts (otherwise last))
     statement (syntax.for_statement _ name first limit step inner) =
         pieces (word (codes "for") ∷ space ∷ word name ∷ space ∷ word (codes "=") ∷ space ∷ expression first ∷ tight ∷ word (codes ",") ∷ space ∷ expression limit
-            ∷ for_step step (space ∷ word (codes "do") ∷ body inner (word (codes "end") ∷ [])))
+        ∷ for_step step (space ∷ word (codes "do") ∷ body inner (word (codes "end") ∷ [])))
     statement (syntax.for_in_statement _ names values inner) =
         pieces (word (codes "for") ∷ space ∷ words names (space ∷ word (codes "in") ∷ space ∷ expressions values (space ∷ word (codes "do") ∷ body inner (word (codes "end") ∷ []))))
     statement (syntax.function_statement _ name fields named inner) =
