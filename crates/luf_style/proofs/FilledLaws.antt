@@ -1,5 +1,5 @@
 -- A draft with enough gaps is filled in exactly one way, and takes as many gaps as it has.
-use Rattle.std.proofs.Common.{◌≡◌, ℕ, ◌≤◌, Bool, true, false, List, [], ◌∷◌, length, drop, refl, sym, ap, ◌∙◌, subst, arith, length-drop, drop-drop}
+use Rattle.std.proofs.Common.{◌≡◌, ℕ, ◌+◌, ◌≤◌, Bool, true, false, List, [], ◌∷◌, length, drop, refl, sym, ap, ◌∙◌, subst, arith, length-drop, drop-drop}
 use Rattle.luf_doc.specs.declared.doc.Chance.{Chance}
 use Rattle.luf_doc.specs.declared.doc.Chance.TheVariants.{Tight, Space, Soft, Line, Hard}
 use Rattle.luf_doc.specs.declared.doc.Gap.{Gap}
@@ -137,3 +137,18 @@ mutual
       let one = one_filled a b in
       let more = are_one as_all (subst (λ (m : List GapNotes). AreFilled (last_text first before) after rest m others es) (sym one.left_same) bs_all) in
       record { left_same = more.left_same; same = λ i. document.also (one.same i) (more.same i) }
+
+-- ---- it takes as many gaps as the draft has
+
+mutual
+  pub filled_count : {before after : List ℕ} {d : Draft} {gaps left : List GapNotes} {x : Document} → IsFilled before after d gaps left x → length gaps ≡ openings d + length left
+  filled_count (filled.word _ _ bytes gaps) = omega arith
+  filled_count (filled.opening _ _ o notes gaps gap a) = omega arith
+  filled_count (filled.trail _ _ gaps) = omega arith
+  filled_count (filled.nest _ _ _ _ _ _ a) = filled_count a
+  filled_count (filled.group _ _ _ _ _ _ a) = filled_count a
+  filled_count (filled.sequence _ _ _ _ _ _ a) = all_filled_count a
+
+  pub all_filled_count : {before after : List ℕ} {items : Drafts} {gaps left : List GapNotes} {xs : Documents} → AreFilled before after items gaps left xs → length gaps ≡ all_openings items + length left
+  all_filled_count (filled.nothing _ _ gaps) = omega arith
+  all_filled_count (filled.also _ _ _ _ _ _ _ _ _ a as_all) = let one = filled_count a in let more = all_filled_count as_all in omega (arith, one, more)

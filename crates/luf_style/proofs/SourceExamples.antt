@@ -54,7 +54,8 @@ syntax_of_empty_statement = syntax.block (from_to 0 1) (syntax.more_statements (
 text_of_empty_statement : formatted empty_statement pieces_of_empty_statement syntax_of_empty_statement ≡ lines (codes "--[[a]]" ∷ [])
 text_of_empty_statement = refl
 
--- a `#` line, an empty line before a `;` that goes, blanks behind a comment, and one in front of the end
+-- a `#` line; a comment that shares its line with a `;` that goes, and so goes to the line before; blanks behind it; an empty
+-- line before the last comment
 abbrev hash_line : List ℕ
 hash_line = codes "#!lua\nx=1\n\n; --a  \nreturn x;\n\n--b"
 
