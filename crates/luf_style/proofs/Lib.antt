@@ -5,3 +5,9 @@ pub mod LeadLoop
 pub mod LayLoop
 pub mod LayArms
 pub mod TestLemmas
+pub mod Openings
+pub mod Fill
+pub mod FilledLaws
+pub mod ExamplePrograms
+pub mod StyleExamples
+pub mod SourceExamples
