@@ -4,8 +4,8 @@
 #     bench/run.sh
 #
 # It proves and builds luafmt first (`rt run`: minutes in a new checkout, else a second), makes its sources of 0.5, 1, 2
-# and 4 MiB in a temporary directory, and prints three tables, each with its targets in the second line: minify.py takes
-# small statements, lexis.py the whole language, scopes.py what is hard on names and jumps. It is no test: its status is 0 whatever the numbers are. It needs
+# and 4 MiB in a temporary directory, and prints four tables, each with its targets in the second line: minify.py takes
+# small statements, names.py what is hard on new names, lexis.py the whole language, scopes.py what is hard on names and jumps. It is no test: its status is 0 whatever the numbers are. It needs
 # rt and python3; luac5.4 and /usr/bin/time are left out where they are missing, and so are real files where real.sh has
 # fetched none. It needs no network.
 #
@@ -15,6 +15,6 @@
 set -euo pipefail
 cd "$(dirname "$0")"
 (cd ../crates/luafmt && rt run -- minify </dev/null >/dev/null)
-for table in minify lexis scopes; do
+for table in minify names lexis scopes; do
     PYTHONDONTWRITEBYTECODE=1 python3 "$table.py" ../crates/luafmt/out/luafmt
 done
