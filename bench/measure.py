@@ -53,9 +53,10 @@ def print_head():
 
 
 def print_row(shape, source, for_luac, before, status_wanted=0):
-    """Measures the programs on a source, and prints their row. The seconds of luafmt come back."""
+    """Measures the programs on a source, and prints their row. luac is left out where it has no source of its own. The seconds of luafmt
+    come back."""
     size = os.path.getsize(source)
-    jobs = [(LUAFMT, source, status_wanted), (["cat"], source)] + ([(LUAC, for_luac)] if LUAC else [])
+    jobs = [(LUAFMT, source, status_wanted), (["cat"], source)] + ([(LUAC, for_luac)] if LUAC and for_luac else [])
     luafmt, cat, luac = (medians(jobs) + [None])[:3]
     memory = peak_bytes(LUAFMT, source) / size if os.path.exists(TIME) else None
     print(ROW(
