@@ -17,7 +17,7 @@ PER_FUNCTION = 200
 
 
 def deep(size):
-    functions = min(100, max(1, size // 30000))
+    functions = min(99, max(1, size // 30000))
     count = functions * PER_FUNCTION
     opened = []
     for number in range(count):
