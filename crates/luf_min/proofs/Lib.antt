@@ -1,4 +1,3 @@
-pub mod FirstByte
 pub mod TokensCut
 pub mod TextAgain
 pub mod Added

@@ -73,13 +73,13 @@ module _ (source : List ℕ) (pieces : List Piece) (chunk : Chunk) (is : IsSourc
 
 -- ---- the text that is read
 
-words_at : (words : List TextWord) (i : ℕ) → unwrap_or (slice_get (spellings words) i) [] ≡ (word_at words i).spelled.spelling
+pub words_at : (words : List TextWord) (i : ℕ) → unwrap_or (slice_get (spellings words) i) [] ≡ (word_at words i).spelled.spelling
 words_at [] i = refl
 words_at (w ∷ words) zero = refl
 words_at (w ∷ words) (suc i) = words_at words i
 
 -- tokens by their spellings are the words without flags
-read_tokens : (told : Spelling) (n : ℕ) (words : List TextWord) → ((i : ℕ) → i < length words → told (n + i) ≡ (word_at words i).spelled.spelling) → spelled_tokens told n (map token_of words) ≡ map (λ (w : TextWord). w.spelled) words
+pub read_tokens : (told : Spelling) (n : ℕ) (words : List TextWord) → ((i : ℕ) → i < length words → told (n + i) ≡ (word_at words i).spelled.spelling) → spelled_tokens told n (map token_of words) ≡ map (λ (w : TextWord). w.spelled) words
 read_tokens told n [] same = refl
 read_tokens told n (w ∷ words) same =
     let at : n ≡ n + 0 = omega arith in
@@ -87,7 +87,7 @@ read_tokens told n (w ∷ words) same =
     let rest = read_tokens told (n + 1) words (λ i within. let next : (n + 1) + i ≡ n + suc i = omega arith in ap told next ∙ same (suc i) (omega (arith, within))) in
     λ j. record { token = token_of w; spelling = here j } ∷ rest j
 
-spelled_words : (words : List TextWord) (i : ℕ) → spelled_at (map (λ (w : TextWord). w.spelled) words) i ≡ (word_at words i).spelled
+pub spelled_words : (words : List TextWord) (i : ℕ) → spelled_at (map (λ (w : TextWord). w.spelled) words) i ≡ (word_at words i).spelled
 spelled_words [] i = refl
 spelled_words (w ∷ words) zero = refl
 spelled_words (w ∷ words) (suc i) = spelled_words words i

@@ -29,7 +29,7 @@ use Rattle.luf_min.specs.Text.{IsJoined, nothing, alone, apart, spaced, is_hash_
 use Rattle.luf_guard.proofs.Before.{spelled_some}
 use Rattle.luf_lex.proofs.PieceSpellings.{SpelledAt, spelled_at}
 use Rattle.luf_guard.proofs.Words.{run_before, begins_some, begins_front}
-use Rattle.luf_min.proofs.FirstByte.{no_line, no_mark, no_hash}
+use Rattle.luf_neat.proofs.FirstByte.{no_line, no_mark, no_hash}
 use Rattle.luf_min.proofs.TokensCut.{Spelled, BracketsStop, TextCut, with_other, text_cut}
 
 -- ---- the tokens of a cut

@@ -21,7 +21,7 @@ use Rattle.luf_lex.proofs.PlainLemmas.{blank_first}
 use Rattle.luf_tree.specs.Grammar.{At}
 use Rattle.luf_min.specs.Text.{IsJoined, nothing, alone, apart, spaced}
 use Rattle.luf_guard.proofs.Before.{Stops, first_before, spelled_some, apart_stops, stops_space, stops_nothing}
-use Rattle.luf_min.proofs.FirstByte.{no_blank, no_equal}
+use Rattle.luf_neat.proofs.FirstByte.{no_blank, no_equal}
 
 -- each of these tokens is spelled so
 abbrev pub Spelled : List Tok → List (List ℕ) → Type 0
