@@ -1,0 +1,12 @@
+pub mod FlatShows
+pub mod FlatStarts
+pub mod FlatLists
+pub mod FlatItems
+pub mod FlatLaws
+pub mod FlatCounts
+pub mod Counts
+pub mod Added
+pub mod TreeReads
+pub mod ListedLaws
+pub mod WholeLaws
+pub mod StatementLaws
