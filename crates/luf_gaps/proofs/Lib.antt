@@ -1,0 +1,7 @@
+pub mod GapCounts
+pub mod TreeReads
+pub mod MaskLaws
+pub mod MarkLaws
+pub mod MaskReads
+pub mod WithinLaws
+pub mod ReadingLaws

@@ -1,0 +1,14 @@
+//! The comments of a source in the gaps of its program.
+#![tactic(auto)]
+
+mod dropped;
+mod mask;
+mod notes;
+mod reading;
+mod remarks;
+#[cfg(test)]
+mod tests;
+
+pub use luf_memory::Memory;
+pub use notes::GapNotes;
+pub use reading::gaps;
