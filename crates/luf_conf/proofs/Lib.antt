@@ -3,4 +3,4 @@ mod Named
 mod Entries
 mod Growing
 mod Refusals
-mod OneAnswer
+pub mod OneAnswer

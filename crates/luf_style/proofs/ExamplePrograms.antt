@@ -5,8 +5,9 @@ use Rattle.luf_doc.specs.declared.doc.Remark.{Remark}
 use Rattle.luf_doc.specs.declared.page.Page.{Page}
 use Rattle.luf_doc.specs.Layout.{layout}
 use Rattle.luf_tree.specs.Syntax as syntax
-use Rattle.luf_style.specs.Form.{Words, main}
-use Rattle.luf_style.specs.Gaps.{GapNotes, empty_gap}
+use Rattle.luf_draft.specs.Form.{Words, main}
+use Rattle.luf_gaps.specs.Gaps.{empty_gap}
+use Rattle.luf_gaps.specs.declared.notes.GapNotes.{GapNotes}
 use Rattle.luf_style.proofs.Fill.{fill}
 
 -- ---- programs

@@ -6,11 +6,13 @@ use Rattle.luf_doc.specs.declared.doc.Gap.{Gap}
 use Rattle.luf_doc.specs.declared.doc.Remark.{Remark}
 use Rattle.luf_doc.specs.Document.{Document, Documents}
 use Rattle.luf_doc.specs.Document as document
-use Rattle.luf_style.specs.Draft.{Draft, Drafts, Border, Opening}
-use Rattle.luf_style.specs.Draft as draft
-use Rattle.luf_style.specs.Gaps.{GapNotes, empty_gap}
+use Rattle.luf_draft.specs.Draft.{Draft, Drafts, Border, Opening}
+use Rattle.luf_draft.specs.Draft as draft
+use Rattle.luf_gaps.specs.Gaps.{empty_gap}
+use Rattle.luf_gaps.specs.declared.notes.GapNotes.{GapNotes}
+use Rattle.luf_style.specs.inner.Chances.{noted_chance}
 use Rattle.luf_style.specs.Filled.{bordered, first_of_all, last_text}
-use Rattle.luf_style.proofs.Openings.{openings}
+use Rattle.luf_draft.specs.Openings.{openings}
 
 -- the chance of a gap without notes, whose texts need a space or not
 abbrev pub plain_chance : Bool → Chance → Chance
@@ -21,14 +23,7 @@ plain_chance needs Soft = Soft
 plain_chance needs Line = Line
 plain_chance needs Hard = Hard
 
--- and of one with notes
-abbrev pub noted_chance : Border → Chance → Chance
-noted_chance draft.inside chance = chance
-noted_chance draft.first_statement chance = chance
-noted_chance draft.later_statement chance = chance
-noted_chance draft.block_end chance = chance
-noted_chance draft.empty_block chance = Hard
-
+-- and of any gap
 abbrev pub chance_of : Bool → List Remark → Border → Chance → Chance
 chance_of needs [] border chance = plain_chance needs chance
 chance_of needs (note ∷ notes) border chance = noted_chance border chance

@@ -7,13 +7,14 @@ use Rattle.luf_doc.specs.declared.doc.Remark.{Remark}
 use Rattle.luf_doc.specs.Document.{Document, Documents}
 use Rattle.luf_doc.specs.Document as document
 use Rattle.luf_guard.specs.Space.{StandApart, NeedSpace}
-use Rattle.luf_style.specs.Draft.{Draft, Drafts, Border, Opening}
-use Rattle.luf_style.specs.Draft as draft
-use Rattle.luf_style.specs.Gaps.{GapNotes}
+use Rattle.luf_draft.specs.Draft.{Draft, Drafts, Border, Opening}
+use Rattle.luf_draft.specs.Draft as draft
+use Rattle.luf_gaps.specs.declared.notes.GapNotes.{GapNotes}
 use Rattle.luf_style.specs.Filled.{Has, IsChance, IsGap, IsFilled, AreFilled, first_of_all, last_text}
 use Rattle.luf_style.specs.Filled as filled
-use Rattle.luf_style.proofs.Openings.{openings, all_openings}
-use Rattle.luf_style.proofs.Fill.{plain_chance, noted_chance, chance_of, filled_gap, fill, fill_all}
+use Rattle.luf_draft.specs.Openings.{openings, all_openings}
+use Rattle.luf_style.proofs.ChanceLaws.{with_notes}
+use Rattle.luf_style.proofs.Fill.{plain_chance, chance_of, filled_gap, fill, fill_all}
 
 module _ (needs : List ℕ → List ℕ → Bool) (apart : (a b : List ℕ) → needs a b ≡ false → StandApart a b) (need : (a b : List ℕ) → needs a b ≡ true → NeedSpace a b) where
   -- ---- there is one
@@ -29,26 +30,10 @@ module _ (needs : List ℕ → List ℕ → Bool) (apart : (a b : List ℕ) → 
   has_first : (note : Remark) (notes : List Remark) → Has (note ∷ notes)
   has_first note notes = λ p. cc
 
-  not_empty_block : (before after : List ℕ) (note : Remark) (notes : List Remark) (border : Border) → (border ≡ draft.empty_block → ⊥) → (chance : Chance)
-      → IsChance before after (note ∷ notes) border chance chance
-  not_empty_block before after note notes border other Tight = filled.noted border other (has_first note notes)
-  not_empty_block before after note notes border other Space = filled.kept border Space (λ p. cc) (λ p. absurd (other p))
-  not_empty_block before after note notes border other Soft = filled.kept border Soft (λ p. cc) (λ p. absurd (other p))
-  not_empty_block before after note notes border other Line = filled.kept border Line (λ p. cc) (λ p. absurd (other p))
-  not_empty_block before after note notes border other Hard = filled.kept border Hard (λ p. cc) (λ p. absurd (other p))
-
-  is_noted : (before after : List ℕ) (note : Remark) (notes : List Remark) (border : Border) (chance : Chance)
-      → IsChance before after (note ∷ notes) border chance (noted_chance border chance)
-  is_noted before after note notes draft.inside chance = not_empty_block before after note notes draft.inside (λ p. cc) chance
-  is_noted before after note notes draft.first_statement chance = not_empty_block before after note notes draft.first_statement (λ p. cc) chance
-  is_noted before after note notes draft.later_statement chance = not_empty_block before after note notes draft.later_statement (λ p. cc) chance
-  is_noted before after note notes draft.block_end chance = not_empty_block before after note notes draft.block_end (λ p. cc) chance
-  is_noted before after note notes draft.empty_block chance = filled.hard chance (has_first note notes)
-
   is_chance : (before after : List ℕ) (notes : List Remark) (border : Border) (chance : Chance)
       → IsChance before after notes border chance (chance_of (needs before after) notes border chance)
   is_chance before after [] border chance = is_plain before after border (needs before after) refl chance
-  is_chance before after (note ∷ notes) border chance = is_noted before after note notes border chance
+  is_chance before after (note ∷ notes) border chance = with_notes before after (note ∷ notes) border chance (has_first note notes)
 
   is_gap : (before after : List ℕ) (opening : Opening) (gap : GapNotes) → IsGap before after opening gap (filled_gap needs before after opening gap)
   is_gap before after opening gap = record { chance = is_chance before after gap.notes opening.border opening.chance; notes_are = refl; blank = refl; deeper = refl }

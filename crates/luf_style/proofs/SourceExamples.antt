@@ -13,8 +13,8 @@ use Rattle.luf_tree.specs.TokenSyntax.{from_to}
 use Rattle.luf_bare.specs.Bare.{words_of, chosen_block}
 use Rattle.luf_bare.specs.Dropped.{dropped_block}
 use Rattle.luf_doc.specs.Layout.{layout}
-use Rattle.luf_style.specs.Form.{main}
-use Rattle.luf_style.specs.Gaps.{gaps}
+use Rattle.luf_draft.specs.Form.{main}
+use Rattle.luf_gaps.specs.Gaps.{gaps}
 use Rattle.luf_style.specs.Styled.{hash_text}
 use Rattle.luf_style.proofs.Fill.{fill}
 use Rattle.luf_style.proofs.ExamplePrograms.{needs, always, page, lines}

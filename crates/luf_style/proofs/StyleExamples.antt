@@ -1,8 +1,8 @@
 -- Small programs with their comments, formatted: computed by the definitions.
 use Rattle.std.proofs.Common.{◌≡◌, ℕ, Bool, true, false, Some, List, [], ◌∷◌, ◌++◌, refl, codes}
 use Rattle.luf_tree.specs.Syntax as syntax
-use Rattle.luf_style.specs.Form.{Words, main}
-use Rattle.luf_style.proofs.Openings.{openings}
+use Rattle.luf_draft.specs.Form.{Words, main}
+use Rattle.luf_draft.specs.Openings.{openings}
 use Rattle.luf_style.proofs.ExamplePrograms.{name, number, string, list, table, block, function_of, arguments, call, set, local, plain, noted, then_empty, empty_line, amid, behind, alone, apart, always, never, as_it_is, chosen_text, text_of, lines, indented}
 
 -- ---- guards

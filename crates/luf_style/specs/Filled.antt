@@ -7,9 +7,9 @@ use Rattle.luf_doc.specs.declared.doc.Remark.{Remark}
 use Rattle.luf_doc.specs.Document.{Document, Documents}
 use Rattle.luf_doc.specs.Document as document
 use Rattle.luf_guard.specs.Space.{StandApart, NeedSpace}
-use Rattle.luf_style.specs.Draft.{Draft, Drafts, Border, Opening}
-use Rattle.luf_style.specs.Draft as draft
-use Rattle.luf_style.specs.Gaps.{GapNotes}
+use Rattle.luf_draft.specs.Draft.{Draft, Drafts, Border, Opening}
+use Rattle.luf_draft.specs.Draft as draft
+use Rattle.luf_gaps.specs.declared.notes.GapNotes.{GapNotes}
 
 -- ---- empty lines: told only where a statement or a block begins or ends
 

@@ -1,6 +1,10 @@
 -- The document of a source and its formatted text, under choices. Rules of our own.
-use Rattle.std.specs.Prelude.{◌≡◌, ℕ, ◌==◌, Bool, List, [], ◌∷◌, ◌++◌, if◌then◌else◌, codes, get_or, slice_range}
-use Rattle.luf_str.specs.Requote.{IsRequoted}
+use Rattle.std.specs.Prelude.{◌≡◌, ℕ, ◌==◌, Bool, List, [], ◌∷◌, ◌++◌, if◌then◌else◌, codes, slice_range, count_by}
+use Rattle.std.specs.Str.{byte}
+use Rattle.luf_str.specs.Requote.{IsRequoted, inside, quote_byte}
+use Rattle.luf_quote.specs.Chosen.{chosen}
+use Rattle.luf_quote.specs.Parens.{keeps_round_string, keeps_round_table}
+use Rattle.luf_conf.specs.declared.settings.Options.{Options}
 use Rattle.luf_lex.specs.Cut.{IsCut, head_end, mark_length}
 use Rattle.luf_lex.specs.Tokens.{toks_of, spellings_of}
 use Rattle.luf_lex.specs.declared.token.Piece.{Piece}
@@ -8,15 +12,13 @@ use Rattle.luf_lex.specs.declared.token.Tok.{Tok}
 use Rattle.luf_lex.specs.declared.token.Tok.TheVariants.{Short}
 use Rattle.luf_tree.specs.declared.tree.Chunk.{Chunk}
 use Rattle.luf_tree.specs.Grammar.{IsChunk}
-use Rattle.luf_tree.specs.Syntax as syntax
 use Rattle.luf_tree.specs.SyntaxOf.{syntax_of}
-use Rattle.luf_bare.specs.Bare.{words_of, chosen_block}
 use Rattle.luf_bare.specs.Dropped.{dropped_block}
 use Rattle.luf_doc.specs.declared.page.Page.{Page}
 use Rattle.luf_doc.specs.Document.{Document}
 use Rattle.luf_doc.specs.Layout.{layout}
-use Rattle.luf_style.specs.Form.{Words, main}
-use Rattle.luf_style.specs.Gaps.{gaps}
+use Rattle.luf_draft.specs.Form.{main, written_program}
+use Rattle.luf_gaps.specs.Gaps.{gaps}
 use Rattle.luf_style.specs.Filled.{IsFilled}
 
 -- What a style chooses: the quotes of a short string, by its spelling; whether a lone string and a lone table stand in
@@ -27,6 +29,15 @@ pub record Choices : Type 0 where
   pub table_has : Bool → Bool
   pub page : Page
 
+-- what options choose
+abbrev pub choices_of : Options → Choices
+choices_of o = record {
+  quote = λ spelling. quote_byte (chosen o.quotes (record { single = count_by (λ b. b == byte "'") (inside spelling); double = count_by (λ b. b == byte "\"") (inside spelling) }));
+  string_has = keeps_round_string o.calls;
+  table_has = keeps_round_table o.calls;
+  page = record { width = o.column_width; tabs = o.tabs; unit = o.indent_width };
+}
+
 -- The tokens, how they are spelled, and how they are written: a short string in the chosen quotes, any other as it is.
 pub data AreWritten (quote : List ℕ → ℕ) : List Tok → List (List ℕ) → List (List ℕ) → Type 0 where
   nothing : AreWritten quote [] [] []
@@ -34,10 +45,6 @@ pub data AreWritten (quote : List ℕ → ℕ) : List Tok → List (List ℕ) �
       → AreWritten quote toks spellings all_written → AreWritten quote (Short ∷ toks) (spelling ∷ spellings) (written ∷ all_written)
   kept : {t : Tok} {spelling : List ℕ} {toks : List Tok} {spellings all_written : List (List ℕ)} → (t ≡ Short → ⊥)
       → AreWritten quote toks spellings all_written → AreWritten quote (t ∷ toks) (spelling ∷ spellings) (spelling ∷ all_written)
-
--- the bare program of a chunk whose tokens are written so; of arguments it is kept whether they have parentheses
-abbrev pub written_program : List (List ℕ) → Chunk → syntax.Block Words
-written_program written chunk = chosen_block (words_of (λ n. get_or written n [])) (λ span had. had) (syntax_of chunk)
 
 -- the document of a source: its program, drafted, with the comments of its gaps
 pub record IsStyled (choices : Choices) (source : List ℕ) (pieces : List Piece) (chunk : Chunk) (d : Document) : Type 0 where
