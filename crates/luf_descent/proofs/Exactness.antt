@@ -1,39 +1,19 @@
 -- How exact answers of parts make exact answers of a whole.
-use Rattle.std.proofs.Common.{◌≡◌, ◌↔◌, ℕ, Bool, true, false, List, [], ◌∷◌, ◌++◌, append_assoc, append-nil, refl, sym, ap, ◌∙◌, subst, arith, Ok, Err}
+use Rattle.std.proofs.Common.{◌≡◌, ◌↔◌, ℕ, Bool, true, false, List, [], ◌∷◌, ◌++◌, append_assoc, append-nil, sym, ap, ◌∙◌, subst, arith, Ok, Err}
 use Rattle.std.specs.Prelude.{Result, IfOk, IfErr, IsTrue}
 use Rattle.std.specs.Result.{IsErrAnd}
 use Rattle.luf_lex.specs.declared.token.Tok.{Tok}
 use Rattle.luf_tree.specs.Grammar.{IsToken}
-use Rattle.luf_descent.specs.Exact.{Alone, Refutes, Then}
+use Rattle.luf_descent.specs.Exact.{Alone, Then}
 use Rattle.luf_descent.specs.declared.error.ParseErr.{ParseErr}
-use Rattle.luf_descent.specs.declared.error.ParseErr.TheVariants as error
 
 -- an error that is passed on is the same
 pub passed : {R : Type 0} (P : ParseErr → Type 0) {e : ParseErr} (r : Result R ParseErr) → IsErrAnd r (λ x. x ≡ e) → P e → IfErr r P
 passed P (Ok x) is h = cc
 passed P (Err x) is h = subst P (sym is) h
 
-pub passes : {toks : List Tok} {R A : Type 0} {P : A → Type 0} {e : ParseErr} (r : Result R ParseErr) → IsErrAnd r (λ x. x ≡ e) → Refutes toks P e → IfErr r (Refutes toks P)
-passes {toks} {P = P} r is h = passed (Refutes toks P) r is h
-
--- where each whole has a part, what refutes the part refutes the whole
-pub refutes_by : {toks : List Tok} {A B : Type 0} {P : A → Type 0} {Q : B → Type 0} {e : ParseErr} → ((y : A) → P y → (z : B) × Q z) → Refutes toks Q e → Refutes toks P e
-refutes_by f h = record { token = h.token; nothing = λ known y p. h.nothing known (f y p).0 (f y p).1 }
-
--- what is said in another form
-pub refutes_form : {toks : List Tok} {A : Type 0} {P Q : A → Type 0} {e : ParseErr} → ((y : A) → P y → Q y) → Refutes toks Q e → Refutes toks P e
-refutes_form f h = refutes_by (λ y p. (y, f y p)) h
-
 pub alone_form : {A : Type 0} {P Q : A → Type 0} {x : A} → ((y : A) → P y → Q y) → Alone Q x → Alone P x
 alone_form f h y p = h y (f y p)
-
--- the first part is refuted
-pub refutes_first : {toks : List Tok} {A B : Type 0} {P : A → Type 0} {Q : A → B → Type 0} {e : ParseErr} → Refutes toks P e → Refutes toks (Then P Q) e
-refutes_first h = refutes_by (λ y p. (p.part, p.first)) h
-
--- the first part is known, and then the rest is refuted, or known
-pub refutes_next : {toks : List Tok} {A B : Type 0} {P : A → Type 0} {Q : A → B → Type 0} {e : ParseErr} {x : A} → Alone P x → Refutes toks (Q x) e → Refutes toks (Then P Q) e
-refutes_next {toks} {A} {B} {P} {Q} {e} {x} only h = refutes_by (λ y p. (y, subst (λ (a : A). Q a y) (only p.part p.first) p.rest)) h
 
 pub alone_next : {A B : Type 0} {P : A → Type 0} {Q : A → B → Type 0} {x : A} {y : B} → Alone P x → Alone (Q x) y → Alone (Then P Q) y
 alone_next {A} {B} {P} {Q} {x} {y} only h z p = h z (subst (λ (a : A). Q a z) (only p.part p.first) p.rest)
@@ -46,30 +26,10 @@ then_rest {A} {B} {P} {Q} {x} {y} only h = subst (λ (a : A). Q a y) (only h.par
 pub alone_is : {A : Type 0} {x v : A} → x ≡ v → Alone (λ y. y ≡ x) v
 alone_is e y h = h ∙ e
 
--- what a call answers is the answer, where the whole is what the call looks for
-pub ok_form : {A E : Type 0} {P Q : A → Type 0} (r : Result A E) → ((y : A) → P y → Q y) → IfOk r (Alone Q) → IfOk r (Alone P)
-ok_form (Ok x) f h = alone_form f h
-ok_form (Err x) f h = cc
-
-pub err_form : (toks : List Tok) {R A : Type 0} {P Q : A → Type 0} (r : Result R ParseErr) → ((y : A) → P y → Q y) → IfErr r (Refutes toks Q) → IfErr r (Refutes toks P)
-err_form toks (Ok x) f h = cc
-err_form toks (Err x) f h = refutes_form f h
-
--- a part that stands in a box is the part
-pub alone_boxed : {A B : Type 0} (f : A → B) {x box : A} → box ≡ x → Alone (λ y. y ≡ f x) (f box)
-alone_boxed f e = alone_is (ap f (sym e))
-
 -- what a call makes, where it finds memory
 pub ok_made : {A E : Type 0} (P : A → Type 0) {v : A} (r : Result A E) → IfOk r (λ x. x ≡ v) → P v → IfOk r P
 ok_made P (Ok x) e h = subst P (sym e) h
 ok_made P (Err x) e h = cc
-
-pub only_made : {A E : Type 0} {Q : A → Type 0} {v : A} (r : Result A E) → IfOk r (λ x. x ≡ v) → Alone Q v → IfOk r (Alone Q)
-only_made {Q = Q} r e h = ok_made (Alone Q) r e h
-
-pub err_made : {R A : Type 0} (toks : List Tok) (P : A → Type 0) (r : Result R ParseErr) → IfErr r (λ e. e ≡ error.Memory) → IfErr r (Refutes toks P)
-err_made toks P (Ok x) e = cc
-err_made toks P (Err x) e = subst (Refutes toks P) (sym e) (record { token = tt; nothing = λ known y h. known refl })
 
 -- one token stands at a place, and ends at one
 pub token_only : {toks : List Tok} {i j : ℕ} {t : Tok} → IsToken toks i t j → Alone (IsToken toks i t) j
@@ -104,9 +64,6 @@ ahead_end {X} {T} {P} {Q} {found} {all} {end} ahead e last y p =
     let a = ahead y p in
     a.2 ∙ ap (λ (z : List X × T). (found ++ z.0, z.1)) (last a.0 a.1) ∙ ap (λ xs. (xs, end)) (append-nil found ∙ sym e)
 
-pub ahead_refutes : {toks : List Tok} {X T : Type 0} {P Q : (List X × T) → Type 0} (found : List X) {e : ParseErr} → Ahead P found Q → Refutes toks Q e → Refutes toks P e
-ahead_refutes found ahead h = refutes_by (λ y p. let a = ahead y p in (a.0, a.1)) h
-
 -- behind a part of a list: the rest, where a separator stands there, else nothing
 pub record ListRest {X T : Type 0} (Sep : ℕ → Type 0) (Rest : ℕ → (List X × T) → Type 0) (x : X) (end : T) (r : List X × T) : Type 0 where
   pub more : (next : ℕ) → Sep next → (s : List X × T) × Rest next s × (r ≡ (x ∷ s.0, s.1))
@@ -131,9 +88,6 @@ list_last {A} {X} {T} {Q} {Item} {Sep} {Rest} {value} {end} {a} form only none r
 -- a triple as a pair whose second part is a pair
 pub alone_triple : {X S T : Type 0} (P : (X × S × T) → Type 0) {x : X} {s : S} {t : T} → Alone {A = X × (S × T)} (λ r. P (r.0, r.1.0, r.1.1)) (x, (s, t)) → Alone P (x, s, t)
 alone_triple {X} {S} {T} P h y p = ap (λ (r : X × (S × T)). (r.0, r.1.0, r.1.1)) (h (y.0, (y.1, y.2)) p)
-
-pub refutes_triple : {toks : List Tok} {X S T : Type 0} (P : (X × S × T) → Type 0) {e : ParseErr} → Refutes {A = X × (S × T)} toks (λ r. P (r.0, r.1.0, r.1.1)) e → Refutes toks P e
-refutes_triple P h = refutes_by (λ y p. ((y.0, (y.1, y.2)), p)) h
 
 -- what a test answers
 pub is_at : {A : Type 0} (r : Bool) → (IsTrue r ↔ A) → r ≡ true → A

@@ -164,7 +164,7 @@ pub suffixed_found : {toks : List Tok} {i j k left : ℕ} {a : Expr} {suffixes :
 suffixed_found {toks} {i} {j} {k} {left} {a} {suffixes} calls h head h2 =
     record { is = suffixed_shaped calls head h2.is; ends = record { forward = omega arith; within = omega arith }; level = omega (arith, lv.suffixed_levels i k a suffixes) }
 
-shaped_prefix : {toks : List Tok} {i j : ℕ} {e : Expr} (shape : Shape) → IsShaped toks i j shape e → IsPrefix toks i j e
+pub shaped_prefix : {toks : List Tok} {i j : ℕ} {e : Expr} (shape : Shape) → IsShaped toks i j shape e → IsPrefix toks i j e
 shaped_prefix shape.Variable h = g.variable_prefix h
 shaped_prefix shape.Call h = g.call_prefix h
 shaped_prefix shape.Paren h = g.paren_prefix h

@@ -40,3 +40,7 @@ nothing P found e h = subst P (sym e) h
 
 pub level_end : {A : Type 0} (f : A → ℕ) (found all : List A) (left : ℕ) → deepest (map f found) ≤ left → all ≡ found → deepest (map f all) ≤ left
 level_end f found all left h e = omega (arith, h, ap (λ xs. deepest (map f xs)) e)
+
+-- no part of an empty list enters a level
+pub level_none : {A : Type 0} (f : A → ℕ) (found : List A) (left : ℕ) → found ≡ [] → deepest (map f found) ≤ left
+level_none f found left e = nothing (λ xs. deepest (map f xs) ≤ left) found e (omega arith)

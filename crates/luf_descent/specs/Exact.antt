@@ -1,6 +1,5 @@
 -- What the functions of the descent answer: the token that an error names, and that an answer is the only one.
-use Rattle.std.specs.Prelude.{◌≡◌, ℕ, ◌+◌, ◌≤◌, List, length}
-use Rattle.luf_lex.specs.declared.token.Tok.{Tok}
+use Rattle.std.specs.Prelude.{◌≡◌, ℕ, ◌+◌}
 use Rattle.luf_descent.specs.declared.error.ParseErr.{ParseErr}
 use Rattle.luf_descent.specs.declared.error.ParseErr.TheVariants as error
 
@@ -13,11 +12,6 @@ OfToken P error.Memory = Unit {0}
 -- of nothing but this it is said
 abbrev pub Alone : {A : Type 0} → (A → Type 0) → A → Type 0
 Alone {A} P x = (y : A) → P y → y ≡ x
-
--- an error names a token of the list or the end, and is no want of memory only where of nothing this is said
-pub record Refutes {A : Type 0} (toks : List Tok) (P : A → Type 0) (e : ParseErr) : Type 0 where
-  pub token : OfToken (λ token. token ≤ length toks) e
-  pub nothing : (e ≡ error.Memory → ⊥) → (y : A) → P y → ⊥
 
 -- a part is read, and then, from what it is, the whole
 pub record Then {A B : Type 0} (First : A → Type 0) (Rest : A → B → Type 0) (whole : B) : Type 0 where

@@ -8,7 +8,8 @@ ghost use Rattle.luf_tree.specs.declared.tree.FuncBody.{out-FuncBody};
 ghost use Rattle.luf_tree.specs.Grammar.{IsToken, IsFuncBody, IsBlock, IsReturn, IsSemicolon};
 ghost use Rattle.luf_tree.specs.Level.{stat_levels, block_levels, body_levels};
 ghost use Rattle.luf_descent.specs.Reads.{Found};
-ghost use Rattle.luf_descent.specs.Exact.{Alone, Refutes};
+ghost use Rattle.luf_descent.specs.Stops.{Known};
+ghost use Rattle.luf_descent.specs.PartStops.{StopsBlock, StopsEnded, StopsFuncBody, StopsReturn};
 ghost use Rattle.luf_descent.specs.Follow.{stops_stats, ends_return};
 ghost use Rattle.luf_descent.specs.Parts.{ReadBlock, ReadEnded, ReadFuncBody, ReadReturn, ReadSemicolon};
 
@@ -27,8 +28,8 @@ use std::alloc::Global;
 #[cycle(parse)]
 pub fn func_body(alloc: Global, cut: &Cut, left: u32, at: u32) -> Result<FuncBody, ParseErr>
     ensures ok { IfOk result (λ f. Found (toks_of cut.now) (at + 1) (out-FuncBody f).to left (body_levels f) (IsFuncBody (toks_of cut.now) at (out-FuncBody f).to f)) }
-    ensures only { IfOk result (Alone (ReadFuncBody (toks_of cut.now) left at)) }
-    ensures none { IfErr result (Refutes (toks_of cut.now) (ReadFuncBody (toks_of cut.now) left at)) }
+    ensures known { IfOk result (λ f. Known (toks_of cut.now) (out-FuncBody f).to (λ l n. ReadFuncBody l n at) f) }
+    ensures stops { at ≤ length (toks_of cut.now) → IfErr result (StopsFuncBody (toks_of cut.now) left at) }
 {
     let first = expect(cut, at, Tok::Sign(Sign::LeftParen))?;
     let (params, vararg, close) = params(alloc, cut, first)?;
@@ -49,8 +50,8 @@ pub fn func_body(alloc: Global, cut: &Cut, left: u32, at: u32) -> Result<FuncBod
 pub fn block(alloc: Global, cut: &Cut, left: u32, at: u32) -> Result<Block, ParseErr>
     requires within { at ≤ length (toks_of cut.now) }
     ensures ok { IfOk result (λ b. Found (toks_of cut.now) at (out-Block b).to left (block_levels b) (IsBlock (toks_of cut.now) at (out-Block b).to b)) }
-    ensures only { IfOk result (Alone (ReadBlock (toks_of cut.now) left at)) }
-    ensures none { IfErr result (Refutes (toks_of cut.now) (ReadBlock (toks_of cut.now) left at)) }
+    ensures known { IfOk result (λ b. Known (toks_of cut.now) (out-Block b).to (λ l n. ReadBlock l n at) b) }
+    ensures stops { IfErr result (StopsBlock (toks_of cut.now) left at) }
 {
     let mut stats = Growing::new(alloc);
     let mut to = at;
@@ -90,8 +91,8 @@ fn ends_block(cut: &Cut, at: u32) -> bool
 #[cycle(parse)]
 fn last(alloc: Global, cut: &Cut, left: u32, at: u32) -> Result<Stat, ParseErr>
     ensures ok { IfOk result (λ s. Found (toks_of cut.now) (at + 1) (out-Stat s).to left (stat_levels s) (IsReturn (toks_of cut.now) at (out-Stat s).to s)) }
-    ensures only { IfOk result (Alone (ReadReturn (toks_of cut.now) left at)) }
-    ensures none { IfErr result (Refutes (toks_of cut.now) (ReadReturn (toks_of cut.now) left at)) }
+    ensures known { IfOk result (λ s. Known (toks_of cut.now) (out-Stat s).to (λ l n. ReadReturn l n at) s) }
+    ensures stops { at ≤ length (toks_of cut.now) → IfErr result (StopsReturn (toks_of cut.now) left at) }
 {
     let next = expect(cut, at, Tok::Word(Word::Return))?;
     if ends_return(cut, next) {
@@ -125,7 +126,7 @@ fn ends_return(cut: &Cut, at: u32) -> bool
 /// The place after `[';']`.
 fn semicolon(cut: &Cut, at: u32) -> u32
     requires { at ≤ length (toks_of cut.now) }
-    ensures only { Alone (ReadSemicolon (toks_of cut.now) at) result }
+    ensures known { Known (toks_of cut.now) result (λ l n. ReadSemicolon l at) result }
     ensures found { Found (toks_of cut.now) at result 0 0 (IsSemicolon (toks_of cut.now) at result) }
 {
     match eat(cut, at, Tok::Sign(Sign::Semicolon)) {
@@ -145,8 +146,8 @@ pub fn ended_block(
 ) -> Result<(Boxed<Block>, u32), ParseErr>
     requires within { from ≤ length (toks_of cut.now) }
     ensures ok { IfOk result (λ r. Found (toks_of cut.now) (from + 1) r.1 left (block_levels r.0 + 1) (IsBlock (toks_of cut.now) from (out-Block r.0).to r.0 × IsToken (toks_of cut.now) (out-Block r.0).to (Tok.Word word.End) r.1)) }
-    ensures only { IfOk result (Alone (ReadEnded (toks_of cut.now) left from)) }
-    ensures none { IfErr result (Refutes (toks_of cut.now) (ReadEnded (toks_of cut.now) left from)) }
+    ensures known { IfOk result (λ r. Known (toks_of cut.now) r.1 (λ l n. ReadEnded l n from) r) }
+    ensures stops { from ≡ opener + 1 → IfErr result (StopsEnded (toks_of cut.now) left opener from) }
 {
     let inner = enter(cut, left, opener)?;
     let body = block(alloc, cut, inner, from)?;

@@ -5,9 +5,10 @@ use std::alloc::AllocError;
 /// Why no tree was made of the tokens: there is none that is nested at most 200 levels deep, or no memory was found.
 #[derive(Clone, Copy, Debug, PartialEq, Eq)]
 pub enum ParseErr {
-    /// There is no such tree. `token` is one of the tokens, or their number for the end.
+    /// `token` is the first of the tokens with which those up to it begin no list that has a tree, or their number for
+    /// the end. None before it enters a level too many.
     Syntax { token: u32 },
-    /// The same. Which of the two words is answered, and at which token, no clause says.
+    /// `token` is the first of the tokens that enters a level too many.
     TooDeep { token: u32 },
     /// No memory was found.
     Memory,

@@ -1,5 +1,5 @@
 // Expressions, by precedence.
-ghost use Rattle.std.specs.Prelude.{◌≡◌, ◌+◌, ◌<◌, ◌≤◌, map, IfOk, IfErr, IfSome};
+ghost use Rattle.std.specs.Prelude.{◌≡◌, ◌+◌, ◌<◌, ◌≤◌, map, IfOk, IfErr, IfSome, length};
 ghost use Rattle.luf_lex.specs.Tokens.{toks_of};
 ghost use Rattle.luf_lex.specs.declared.token.Word.TheVariants as word;
 ghost use Rattle.luf_tree.specs.declared.tree.Expr.{out-Expr};
@@ -8,7 +8,8 @@ ghost use Rattle.luf_tree.specs.Level.{deepest, expr_levels};
 ghost use Rattle.luf_descent.specs.Follow as follow;
 ghost use Rattle.luf_descent.specs.Reads.{Found};
 ghost use Rattle.luf_descent.specs.Shapes.{IsLeaf, leaf_kind};
-ghost use Rattle.luf_descent.specs.Exact.{Alone, Refutes};
+ghost use Rattle.luf_descent.specs.Stops.{Known};
+ghost use Rattle.luf_descent.specs.PartStops.{StopsChain, StopsExpr, StopsExprs, StopsOperand, StopsSimple};
 ghost use Rattle.luf_descent.specs.Parts.{ReadChain, ReadExpr, ReadExprs, ReadFunction, ReadOperand, ReadPower, ReadSimple};
 
 use crate::blocks::func_body;
@@ -29,8 +30,8 @@ pub fn expr(alloc: Global, cut: &Cut, left: u32, at: u32, least: u8) -> Result<E
     requires high { least ≤ 11 }
     ensures ok { IfOk result (λ e. Found (toks_of cut.now) (at + 1) (out-Expr e).to left (expr_levels e) (IsExpr (toks_of cut.now) least at (out-Expr e).to e)) }
     ensures ends { IfOk result (λ e. follow.precedence_at (toks_of cut.now) (out-Expr e).to < least) }
-    ensures only { IfOk result (Alone (ReadExpr (toks_of cut.now) least left at)) }
-    ensures none { IfErr result (Refutes (toks_of cut.now) (ReadExpr (toks_of cut.now) least left at)) }
+    ensures known { IfOk result (λ e. Known (toks_of cut.now) (out-Expr e).to (λ l n. ReadExpr l least n at) e) }
+    ensures stops { at ≤ length (toks_of cut.now) → IfErr result (StopsExpr (toks_of cut.now) least left at) }
 {
     let mut whole = operand(alloc, cut, left, at)?;
     'chains: loop {
@@ -58,8 +59,9 @@ fn chain(
     requires next { follow.precedence_at (toks_of cut.now) (out-Expr first).to ≡ precedence }
     ensures ok { IfOk result (λ e. Found (toks_of cut.now) (at + 1) (out-Expr e).to left (expr_levels e) (IsExpr (toks_of cut.now) precedence at (out-Expr e).to e)) }
     ensures ends { IfOk result (λ e. follow.precedence_at (toks_of cut.now) (out-Expr e).to < precedence) }
-    ensures only { IfOk result (Alone (ReadChain (toks_of cut.now) precedence left at first)) }
-    ensures none { IfErr result (Refutes (toks_of cut.now) (ReadChain (toks_of cut.now) precedence left at first)) }
+    ensures further { IfOk result (λ e. (out-Expr first).to ≤ (out-Expr e).to) }
+    ensures known { IfOk result (λ e. Known (toks_of cut.now) (out-Expr e).to (λ l n. ReadChain l precedence n at first) e) }
+    ensures stops { IfErr result (StopsChain (toks_of cut.now) precedence left at first) }
 {
     let mut rest = Growing::new(alloc);
     let mut sign = first.to;
@@ -81,8 +83,8 @@ fn chain(
 #[cycle(parse)]
 fn operand(alloc: Global, cut: &Cut, left: u32, at: u32) -> Result<Expr, ParseErr>
     ensures ok { IfOk result (λ e. Found (toks_of cut.now) (at + 1) (out-Expr e).to left (expr_levels e) (IsOperand (toks_of cut.now) at (out-Expr e).to e)) }
-    ensures only { IfOk result (Alone (ReadOperand (toks_of cut.now) left at)) }
-    ensures none { IfErr result (Refutes (toks_of cut.now) (ReadOperand (toks_of cut.now) left at)) }
+    ensures known { IfOk result (λ e. Known (toks_of cut.now) (out-Expr e).to (λ l n. ReadOperand l n at) e) }
+    ensures stops { at ≤ length (toks_of cut.now) → IfErr result (StopsOperand (toks_of cut.now) left at (λ l n. ReadOperand l n at)) }
 {
     let Some((tok, next)) = take(cut, at) else {
         return Err(refusal(cut, at));
@@ -99,8 +101,8 @@ fn operand(alloc: Global, cut: &Cut, left: u32, at: u32) -> Result<Expr, ParseEr
 #[cycle(parse)]
 fn power(alloc: Global, cut: &Cut, left: u32, at: u32) -> Result<Expr, ParseErr>
     ensures ok { IfOk result (λ e. Found (toks_of cut.now) (at + 1) (out-Expr e).to left (expr_levels e) (IsOperand (toks_of cut.now) at (out-Expr e).to e)) }
-    ensures only { IfOk result (Alone (ReadPower (toks_of cut.now) left at)) }
-    ensures none { IfErr result (Refutes (toks_of cut.now) (ReadPower (toks_of cut.now) left at)) }
+    ensures known { IfOk result (λ e. Known (toks_of cut.now) (out-Expr e).to (λ l n. ReadPower l n at) e) }
+    ensures stops { at ≤ length (toks_of cut.now) → IfErr result (StopsOperand (toks_of cut.now) left at (λ l n. ReadPower l n at)) }
 {
     let base = simple(alloc, cut, left, at)?;
     let sign = base.to;
@@ -116,8 +118,8 @@ fn power(alloc: Global, cut: &Cut, left: u32, at: u32) -> Result<Expr, ParseErr>
 #[cycle(parse)]
 fn simple(alloc: Global, cut: &Cut, left: u32, at: u32) -> Result<Expr, ParseErr>
     ensures ok { IfOk result (λ e. Found (toks_of cut.now) (at + 1) (out-Expr e).to left (expr_levels e) (IsSimple (toks_of cut.now) at (out-Expr e).to e)) }
-    ensures only { IfOk result (Alone (ReadSimple (toks_of cut.now) left at)) }
-    ensures none { IfErr result (Refutes (toks_of cut.now) (ReadSimple (toks_of cut.now) left at)) }
+    ensures known { IfOk result (λ e. Known (toks_of cut.now) (out-Expr e).to (λ l n. ReadSimple l n at) e) }
+    ensures stops { at ≤ length (toks_of cut.now) → IfErr result (StopsSimple (toks_of cut.now) left at (λ l n. ReadSimple l n at)) }
 {
     let Some((tok, to)) = take(cut, at) else {
         return Err(refusal(cut, at));
@@ -157,8 +159,8 @@ fn leaf(tok: Tok) -> Option<ExprKind>
 fn function(alloc: Global, cut: &Cut, left: u32, at: u32, next: u32) -> Result<Expr, ParseErr>
     requires word { IsToken (toks_of cut.now) at (Tok.Word word.Function) next }
     ensures ok { IfOk result (λ e. Found (toks_of cut.now) (at + 1) (out-Expr e).to left (expr_levels e) (IsSimple (toks_of cut.now) at (out-Expr e).to e)) }
-    ensures only { IfOk result (Alone (ReadFunction (toks_of cut.now) left at next)) }
-    ensures none { IfErr result (Refutes (toks_of cut.now) (ReadFunction (toks_of cut.now) left at next)) }
+    ensures known { IfOk result (λ e. Known (toks_of cut.now) (out-Expr e).to (λ l n. ReadFunction l n at next) e) }
+    ensures stops { next ≤ length (toks_of cut.now) → IfErr result (StopsSimple (toks_of cut.now) left at (λ l n. ReadFunction l n at next)) }
 {
     let inner = enter(cut, left, at)?;
     let body = func_body(alloc, cut, inner, next)?;
@@ -174,8 +176,8 @@ pub fn exprs(
     mut at: u32,
 ) -> Result<(Items<Expr>, u32), ParseErr>
     ensures ok { IfOk result (λ r. Found (toks_of cut.now) (at + 1) r.1 left (deepest (map expr_levels r.0)) (AreExprs (toks_of cut.now) at r.1 r.0)) }
-    ensures only { IfOk result (Alone (ReadExprs (toks_of cut.now) left at)) }
-    ensures none { IfErr result (Refutes (toks_of cut.now) (ReadExprs (toks_of cut.now) left at)) }
+    ensures known { IfOk result (λ r. Known (toks_of cut.now) r.1 (λ l n. ReadExprs l n at) r) }
+    ensures stops { at ≤ length (toks_of cut.now) → IfErr result (StopsExprs (toks_of cut.now) left at) }
 {
     let mut found = Growing::new(alloc);
     loop {

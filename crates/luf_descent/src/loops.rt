@@ -7,7 +7,8 @@ ghost use Rattle.luf_tree.specs.declared.tree.Stat.{out-Stat};
 ghost use Rattle.luf_tree.specs.Grammar.{IsToken, IsStat, IsForStep};
 ghost use Rattle.luf_tree.specs.Level.{expr_levels, stat_levels, if_there};
 ghost use Rattle.luf_descent.specs.Reads.{Found};
-ghost use Rattle.luf_descent.specs.Exact.{Alone, Refutes};
+ghost use Rattle.luf_descent.specs.Stops.{Known};
+ghost use Rattle.luf_descent.specs.PartStops.{StopsCount, StopsForStep, StopsStat};
 ghost use Rattle.luf_descent.specs.Follow.{IsAssigned};
 ghost use Rattle.luf_descent.specs.Parts.{ReadCount, ReadFor, ReadForStep};
 
@@ -27,8 +28,8 @@ use std::alloc::Global;
 pub fn for_stat(alloc: Global, cut: &Cut, left: u32, at: u32, next: u32) -> Result<Stat, ParseErr>
     requires word { IsToken (toks_of cut.now) at (Tok.Word word.For) next }
     ensures ok { IfOk result (λ s. Found (toks_of cut.now) (at + 1) (out-Stat s).to left (stat_levels s) (IsStat (toks_of cut.now) at (out-Stat s).to s)) }
-    ensures only { IfOk result (Alone (ReadFor (toks_of cut.now) left at next)) }
-    ensures none { IfErr result (Refutes (toks_of cut.now) (ReadFor (toks_of cut.now) left at next)) }
+    ensures known { IfOk result (λ s. Known (toks_of cut.now) (out-Stat s).to (λ l n. ReadFor l n at next) s) }
+    ensures stops { next ≤ length (toks_of cut.now) → IfErr result (StopsStat (toks_of cut.now) left at (λ l n. ReadFor l n at next)) }
 {
     if let Some(from) = assigned(cut, next) {
         return count_stat(alloc, cut, left, at, next, from);
@@ -54,8 +55,9 @@ fn count_stat(
     requires word { IsToken (toks_of cut.now) at (Tok.Word word.For) name }
     requires name { IsAssigned (toks_of cut.now) name from }
     ensures ok { IfOk result (λ s. Found (toks_of cut.now) (at + 1) (out-Stat s).to left (stat_levels s) (IsStat (toks_of cut.now) at (out-Stat s).to s)) }
-    ensures only { IfOk result (Alone (ReadCount (toks_of cut.now) left at name from)) }
-    ensures none { IfErr result (Refutes (toks_of cut.now) (ReadCount (toks_of cut.now) left at name from)) }
+    ensures further { IfOk result (λ s. from ≤ (out-Stat s).to) }
+    ensures known { IfOk result (λ s. Known (toks_of cut.now) (out-Stat s).to (λ l n. ReadCount l n at name from) s) }
+    ensures stops { from ≤ length (toks_of cut.now) → IfErr result (StopsCount (toks_of cut.now) left at name from) }
 {
     let first = expr(alloc, cut, left, from, 1)?;
     let second = expect(cut, first.to, Tok::Sign(Sign::Comma))?;
@@ -76,8 +78,8 @@ fn for_step(
 ) -> Result<(Option<Boxed<Expr>>, u32), ParseErr>
     requires within { at ≤ length (toks_of cut.now) }
     ensures ok { IfOk result (λ r. Found (toks_of cut.now) at r.1 left (if_there (option_map expr_levels r.0)) (IsForStep (toks_of cut.now) at r.1 r.0)) }
-    ensures only { IfOk result (Alone (ReadForStep (toks_of cut.now) left at)) }
-    ensures none { IfErr result (Refutes (toks_of cut.now) (ReadForStep (toks_of cut.now) left at)) }
+    ensures known { IfOk result (λ r. Known (toks_of cut.now) r.1 (λ l n. ReadForStep l n at) r) }
+    ensures stops { IfErr result (StopsForStep (toks_of cut.now) left at) }
 {
     let Some(from) = eat(cut, at, Tok::Sign(Sign::Comma)) else {
         return Ok((None, at));

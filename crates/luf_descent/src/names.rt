@@ -1,9 +1,10 @@
 // Lists of names.
-ghost use Rattle.std.specs.Prelude.{◌≡◌, ◌+◌, ◌<◌, ◌≤◌, length, IfOk, IfErr};
+ghost use Rattle.std.specs.Prelude.{◌≡◌, ◌+◌, ◌<◌, ◌≤◌, length, IfOk, IfErr, ℕ};
 ghost use Rattle.luf_lex.specs.Tokens.{toks_of};
 ghost use Rattle.luf_tree.specs.Grammar.{AreNames, AreParams, IsAttribute, AreDeclared, IsPath, IsMethod};
 ghost use Rattle.luf_descent.specs.Reads.{Found};
-ghost use Rattle.luf_descent.specs.Exact.{Alone, Refutes};
+ghost use Rattle.luf_descent.specs.Stops.{Known};
+ghost use Rattle.luf_descent.specs.PartStops.{StopsAttribute, StopsDeclared, StopsMethod, StopsNames, StopsParams, StopsPath};
 ghost use Rattle.luf_descent.specs.Parts.{ReadAttribute, ReadDeclared, ReadMethod, ReadNames, ReadParams, ReadPath};
 
 use crate::ParseErr;
@@ -17,8 +18,8 @@ use std::alloc::Global;
 /// `Name {',' Name}`, and the place after it.
 pub fn names(alloc: Global, cut: &Cut, mut at: u32) -> Result<(Items<u32>, u32), ParseErr>
     ensures ok { IfOk result (λ r. Found (toks_of cut.now) (at + 1) r.1 0 0 (AreNames (toks_of cut.now) at r.1 r.0)) }
-    ensures only { IfOk result (Alone (ReadNames (toks_of cut.now) at)) }
-    ensures none { IfErr result (Refutes (toks_of cut.now) (ReadNames (toks_of cut.now) at)) }
+    ensures known { IfOk result (λ r. Known (toks_of cut.now) r.1 (λ l n. ReadNames l at) r) }
+    ensures stops { (left : ℕ) → at ≤ length (toks_of cut.now) → IfErr result (StopsNames (toks_of cut.now) left at) }
 {
     let mut found = Growing::new(alloc);
     loop {
@@ -34,8 +35,8 @@ pub fn names(alloc: Global, cut: &Cut, mut at: u32) -> Result<(Items<u32>, u32),
 /// `Name {'.' Name}`, and the place after it.
 pub fn path(alloc: Global, cut: &Cut, mut at: u32) -> Result<(Items<u32>, u32), ParseErr>
     ensures ok { IfOk result (λ r. Found (toks_of cut.now) (at + 1) r.1 0 0 (IsPath (toks_of cut.now) at r.1 r.0)) }
-    ensures only { IfOk result (Alone (ReadPath (toks_of cut.now) at)) }
-    ensures none { IfErr result (Refutes (toks_of cut.now) (ReadPath (toks_of cut.now) at)) }
+    ensures known { IfOk result (λ r. Known (toks_of cut.now) r.1 (λ l n. ReadPath l at) r) }
+    ensures stops { at ≤ length (toks_of cut.now) → IfErr result (StopsPath (toks_of cut.now) at) }
 {
     let mut found = Growing::new(alloc);
     loop {
@@ -52,8 +53,8 @@ pub fn path(alloc: Global, cut: &Cut, mut at: u32) -> Result<(Items<u32>, u32), 
 pub fn method(cut: &Cut, at: u32) -> Result<(Option<u32>, u32), ParseErr>
     requires { at ≤ length (toks_of cut.now) }
     ensures ok { IfOk result (λ r. Found (toks_of cut.now) at r.1 0 0 (IsMethod (toks_of cut.now) at r.1 r.0)) }
-    ensures only { IfOk result (Alone (ReadMethod (toks_of cut.now) at)) }
-    ensures none { IfErr result (Refutes (toks_of cut.now) (ReadMethod (toks_of cut.now) at)) }
+    ensures known { IfOk result (λ r. Known (toks_of cut.now) r.1 (λ l n. ReadMethod l at) r) }
+    ensures stops { IfErr result (StopsMethod (toks_of cut.now) at) }
 {
     match eat(cut, at, Tok::Sign(Sign::Colon)) {
         Some(name) => {
@@ -68,8 +69,8 @@ pub fn method(cut: &Cut, at: u32) -> Result<(Option<u32>, u32), ParseErr>
 pub fn params(alloc: Global, cut: &Cut, mut at: u32) -> Result<(Items<u32>, bool, u32), ParseErr>
     requires { at ≤ length (toks_of cut.now) }
     ensures ok { IfOk result (λ r. Found (toks_of cut.now) at r.2 0 0 (AreParams (toks_of cut.now) at r.2 r.0 r.1)) }
-    ensures only { IfOk result (Alone (ReadParams (toks_of cut.now) at)) }
-    ensures none { IfErr result (Refutes (toks_of cut.now) (ReadParams (toks_of cut.now) at)) }
+    ensures known { IfOk result (λ r. Known (toks_of cut.now) r.2 (λ l n. ReadParams l at) r) }
+    ensures stops { (left : ℕ) → IfErr result (StopsParams (toks_of cut.now) left at) }
 {
     if let Some(to) = eat(cut, at, Tok::Sign(Sign::Dots)) {
         return Ok((Items::new(alloc), true, to));
@@ -95,8 +96,8 @@ pub fn params(alloc: Global, cut: &Cut, mut at: u32) -> Result<(Items<u32>, bool
 fn attribute(cut: &Cut, at: u32) -> Result<(Option<u32>, u32), ParseErr>
     requires { at ≤ length (toks_of cut.now) }
     ensures ok { IfOk result (λ r. Found (toks_of cut.now) at r.1 0 0 (IsAttribute (toks_of cut.now) at r.1 r.0)) }
-    ensures only { IfOk result (Alone (ReadAttribute (toks_of cut.now) at)) }
-    ensures none { IfErr result (Refutes (toks_of cut.now) (ReadAttribute (toks_of cut.now) at)) }
+    ensures known { IfOk result (λ r. Known (toks_of cut.now) r.1 (λ l n. ReadAttribute l at) r) }
+    ensures stops { (left : ℕ) → IfErr result (StopsAttribute (toks_of cut.now) left at) }
 {
     match eat(cut, at, Tok::Sign(Sign::Less)) {
         Some(name) => {
@@ -111,8 +112,8 @@ fn attribute(cut: &Cut, at: u32) -> Result<(Option<u32>, u32), ParseErr>
 /// `Name attrib {',' Name attrib}`, and the place after it.
 pub fn declared(alloc: Global, cut: &Cut, mut at: u32) -> Result<(Items<Declared>, u32), ParseErr>
     ensures ok { IfOk result (λ r. Found (toks_of cut.now) (at + 1) r.1 0 0 (AreDeclared (toks_of cut.now) at r.1 r.0)) }
-    ensures only { IfOk result (Alone (ReadDeclared (toks_of cut.now) at)) }
-    ensures none { IfErr result (Refutes (toks_of cut.now) (ReadDeclared (toks_of cut.now) at)) }
+    ensures known { IfOk result (λ r. Known (toks_of cut.now) r.1 (λ l n. ReadDeclared l at) r) }
+    ensures stops { (left : ℕ) → at ≤ length (toks_of cut.now) → IfErr result (StopsDeclared (toks_of cut.now) left at) }
 {
     let mut found = Growing::new(alloc);
     loop {

@@ -8,14 +8,15 @@ ghost use Rattle.luf_tree.specs.Grammar.{expression, IsToken, IsString, NoParenF
 ghost use Rattle.luf_tree.specs.Level.{deepest, expr_levels, suffix_levels, args_levels};
 ghost use Rattle.luf_descent.specs.Reads.{Found};
 ghost use Rattle.luf_descent.specs.Shapes.{IsShaped, suffixed_shape, lone_args};
-ghost use Rattle.luf_descent.specs.Exact.{Alone, Refutes};
+ghost use Rattle.luf_descent.specs.Stops.{Known};
+ghost use Rattle.luf_descent.specs.PartStops.{StopsArgs, StopsHead, StopsParen, StopsPrefix, StopsSuffix, StopsSuffixes};
 ghost use Rattle.luf_descent.specs.Follow.{NotString};
 ghost use Rattle.luf_descent.specs.Parts.{ReadArgs, ReadHead, ReadListArgs, ReadLoneArg, ReadParen, ReadPrefix, ReadSuffix, ReadSuffixes};
 
 use crate::expressions::{expr, exprs};
 use crate::growing::Growing;
 use crate::tables::table;
-use crate::tokens::{begins_suffix, eat, enter, expect, take};
+use crate::tokens::{begins_suffix, eat, enter, expect, refusal, take};
 use crate::{ParseErr, made};
 use luf_lex::{Cut, Sign, Tok};
 use luf_tree::{Args, Expr, ExprKind, Suffix};
@@ -42,8 +43,8 @@ pub struct PrefixExpr {
 pub fn prefix(alloc: Global, cut: &Cut, left: u32, at: u32) -> Result<PrefixExpr, ParseErr>
     ensures ok { IfOk result (λ p. Found (toks_of cut.now) (at + 1) (out-Expr p.expr).to left (expr_levels p.expr) (IsShaped (toks_of cut.now) at (out-Expr p.expr).to p.shape p.expr)) }
     ensures closed { IfOk result (λ p. NoParenFollows (toks_of cut.now) (out-Expr p.expr).to) }
-    ensures only { IfOk result (Alone (ReadPrefix (toks_of cut.now) left at)) }
-    ensures none { IfErr result (Refutes (toks_of cut.now) (ReadPrefix (toks_of cut.now) left at)) }
+    ensures known { IfOk result (λ p. Known (toks_of cut.now) (out-Expr p.expr).to (λ l n. ReadPrefix l n at) p) }
+    ensures stops { at ≤ length (toks_of cut.now) → IfErr result (StopsPrefix (toks_of cut.now) left at) }
 {
     let head = head(alloc, cut, left, at)?;
     if !begins_suffix(cut, head.expr.to) {
@@ -83,8 +84,8 @@ fn suffixed(
 fn head(alloc: Global, cut: &Cut, left: u32, at: u32) -> Result<PrefixExpr, ParseErr>
     ensures ok { IfOk result (λ p. Found (toks_of cut.now) (at + 1) (out-Expr p.expr).to left (expr_levels p.expr) (IsShaped (toks_of cut.now) at (out-Expr p.expr).to p.shape p.expr)) }
     ensures head { IfOk result (λ p. IsHead (toks_of cut.now) at (out-Expr p.expr).to p.expr) }
-    ensures only { IfOk result (Alone (ReadHead (toks_of cut.now) left at)) }
-    ensures none { IfErr result (Refutes (toks_of cut.now) (ReadHead (toks_of cut.now) left at)) }
+    ensures known { IfOk result (λ p. Known (toks_of cut.now) (out-Expr p.expr).to (λ l n. ReadHead l n at) p) }
+    ensures stops { at ≤ length (toks_of cut.now) → IfErr result (StopsHead (toks_of cut.now) left at) }
 {
     if let Some(to) = eat(cut, at, Tok::Name) {
         let expr = Expr {
@@ -97,21 +98,24 @@ fn head(alloc: Global, cut: &Cut, left: u32, at: u32) -> Result<PrefixExpr, Pars
             expr,
         });
     }
-    let expr = paren(alloc, cut, left, at)?;
+    let Some(next) = eat(cut, at, Tok::Sign(Sign::LeftParen)) else {
+        return Err(refusal(cut, at));
+    };
+    let expr = paren(alloc, cut, left, at, next)?;
     Ok(PrefixExpr {
         shape: Shape::Paren,
         expr,
     })
 }
 
-/// `'(' exp ')'`.
+/// `'(' exp ')'` behind its `(`.
 #[cycle(parse)]
-fn paren(alloc: Global, cut: &Cut, left: u32, at: u32) -> Result<Expr, ParseErr>
+fn paren(alloc: Global, cut: &Cut, left: u32, at: u32, next: u32) -> Result<Expr, ParseErr>
+    requires sign { IsToken (toks_of cut.now) at (Tok.Sign sign.LeftParen) next }
     ensures ok { IfOk result (λ e. Found (toks_of cut.now) (at + 1) (out-Expr e).to left (expr_levels e) (IsParen (toks_of cut.now) at (out-Expr e).to e)) }
-    ensures only { IfOk result (Alone (ReadParen (toks_of cut.now) left at)) }
-    ensures none { IfErr result (Refutes (toks_of cut.now) (ReadParen (toks_of cut.now) left at)) }
+    ensures known { IfOk result (λ e. Known (toks_of cut.now) (out-Expr e).to (λ l n. ReadParen l n at) e) }
+    ensures stops { next ≤ length (toks_of cut.now) → IfErr result (StopsParen (toks_of cut.now) left at) }
 {
-    let next = expect(cut, at, Tok::Sign(Sign::LeftParen))?;
     let inner = enter(cut, left, at)?;
     let inside = expr(alloc, cut, inner, next, 1)?;
     let to = expect(cut, inside.to, Tok::Sign(Sign::RightParen))?;
@@ -128,8 +132,8 @@ fn suffixes(
 ) -> Result<(Items<Suffix>, bool, u32), ParseErr>
     ensures ok { IfOk result (λ r. Found (toks_of cut.now) (at + 1) r.2 left (deepest (map suffix_levels r.0)) (AreSuffixes (toks_of cut.now) r.1 at r.2 r.0)) }
     ensures closed { IfOk result (λ r. NoParenFollows (toks_of cut.now) r.2) }
-    ensures only { IfOk result (Alone (ReadSuffixes (toks_of cut.now) left at)) }
-    ensures none { IfErr result (Refutes (toks_of cut.now) (ReadSuffixes (toks_of cut.now) left at)) }
+    ensures known { IfOk result (λ r. Known (toks_of cut.now) r.2 (λ l n. ReadSuffixes l n at) r) }
+    ensures stops { at ≤ length (toks_of cut.now) → IfErr result (StopsSuffixes (toks_of cut.now) left at) }
 {
     let mut found = Growing::new(alloc);
     loop {
@@ -146,8 +150,8 @@ fn suffixes(
 #[cycle(parse)]
 fn suffix(alloc: Global, cut: &Cut, left: u32, at: u32) -> Result<(Suffix, bool, u32), ParseErr>
     ensures ok { IfOk result (λ r. Found (toks_of cut.now) (at + 1) r.2 left (suffix_levels r.0) (IsSuffix (toks_of cut.now) r.1 at r.2 r.0)) }
-    ensures only { IfOk result (Alone (ReadSuffix (toks_of cut.now) left at)) }
-    ensures none { IfErr result (Refutes (toks_of cut.now) (ReadSuffix (toks_of cut.now) left at)) }
+    ensures known { IfOk result (λ r. Known (toks_of cut.now) r.2 (λ l n. ReadSuffix l n at) r) }
+    ensures stops { at ≤ length (toks_of cut.now) → IfErr result (StopsSuffix (toks_of cut.now) left at) }
 {
     if let Some(name) = eat(cut, at, Tok::Sign(Sign::Dot)) {
         let to = expect(cut, name, Tok::Name)?;
@@ -174,8 +178,8 @@ fn suffix(alloc: Global, cut: &Cut, left: u32, at: u32) -> Result<(Suffix, bool,
 #[cycle(parse)]
 fn args(alloc: Global, cut: &Cut, left: u32, at: u32) -> Result<Args, ParseErr>
     ensures ok { IfOk result (λ a. Found (toks_of cut.now) (at + 1) (out-Args a).to left (args_levels a) (IsArgs (toks_of cut.now) at (out-Args a).to a)) }
-    ensures only { IfOk result (Alone (ReadArgs (toks_of cut.now) left at)) }
-    ensures none { IfErr result (Refutes (toks_of cut.now) (ReadArgs (toks_of cut.now) left at)) }
+    ensures known { IfOk result (λ a. Known (toks_of cut.now) (out-Args a).to (λ l n. ReadArgs l n at) a) }
+    ensures stops { at ≤ length (toks_of cut.now) → IfErr result (StopsArgs (toks_of cut.now) left at (λ l n. ReadArgs l n at)) }
 {
     if let Some(inside) = eat(cut, at, Tok::Sign(Sign::LeftParen)) {
         return list_args(alloc, cut, left, at, inside);
@@ -197,8 +201,8 @@ fn args(alloc: Global, cut: &Cut, left: u32, at: u32) -> Result<Args, ParseErr>
 fn list_args(alloc: Global, cut: &Cut, left: u32, at: u32, inside: u32) -> Result<Args, ParseErr>
     requires sign { IsToken (toks_of cut.now) at (Tok.Sign sign.LeftParen) inside }
     ensures ok { IfOk result (λ a. Found (toks_of cut.now) (at + 1) (out-Args a).to left (args_levels a) (IsArgs (toks_of cut.now) at (out-Args a).to a)) }
-    ensures only { IfOk result (Alone (ReadListArgs (toks_of cut.now) left at inside)) }
-    ensures none { IfErr result (Refutes (toks_of cut.now) (ReadListArgs (toks_of cut.now) left at inside)) }
+    ensures known { IfOk result (λ a. Known (toks_of cut.now) (out-Args a).to (λ l n. ReadListArgs l n at inside) a) }
+    ensures stops { inside ≤ length (toks_of cut.now) → IfErr result (StopsArgs (toks_of cut.now) left at (λ l n. ReadListArgs l n at inside)) }
 {
     let inner = enter(cut, left, at)?;
     if let Some(to) = eat(cut, inside, Tok::Sign(Sign::RightParen)) {
@@ -223,8 +227,8 @@ fn list_args(alloc: Global, cut: &Cut, left: u32, at: u32, inside: u32) -> Resul
 #[cycle(parse)]
 fn lone_arg(alloc: Global, cut: &Cut, left: u32, at: u32) -> Result<Expr, ParseErr>
     ensures ok { IfOk result (λ e. Found (toks_of cut.now) (at + 1) (out-Expr e).to left (expr_levels e + 1) (IsArgs (toks_of cut.now) at (out-Expr e).to (lone_args at e))) }
-    ensures only { IfOk result (Alone (ReadLoneArg (toks_of cut.now) left at)) }
-    ensures none { IfErr result (Refutes (toks_of cut.now) (ReadLoneArg (toks_of cut.now) left at)) }
+    ensures known { IfOk result (λ e. Known (toks_of cut.now) (out-Expr e).to (λ l n. ReadLoneArg l n at) e) }
+    ensures stops { at ≤ length (toks_of cut.now) → IfErr result (StopsArgs (toks_of cut.now) left at (λ l n. ReadLoneArg l n at)) }
 {
     if let Some(to) = string(cut, at) {
         enter(cut, left, at)?;

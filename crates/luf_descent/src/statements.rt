@@ -1,5 +1,5 @@
 // Statements.
-ghost use Rattle.std.specs.Prelude.{◌≡◌, ◌+◌, ◌≤◌, map, length, slice_get, IfOk, IfErr};
+ghost use Rattle.std.specs.Prelude.{◌≡◌, ◌+◌, ◌≤◌, map, length, slice_get, IfOk, IfErr, ℕ};
 ghost use Rattle.std.specs.Option.{option_map};
 ghost use Rattle.luf_lex.specs.Tokens.{toks_of};
 ghost use Rattle.luf_lex.specs.declared.token.Word.TheVariants as word;
@@ -8,7 +8,8 @@ ghost use Rattle.luf_tree.specs.declared.tree.Stat.{out-Stat};
 ghost use Rattle.luf_tree.specs.Grammar.{IsToken, IsStat, IsArm, AreArms, IsElse};
 ghost use Rattle.luf_tree.specs.Level.{deepest, stat_levels, block_levels, arm_levels, block_if_there};
 ghost use Rattle.luf_descent.specs.Reads.{Found};
-ghost use Rattle.luf_descent.specs.Exact.{Alone, Refutes};
+ghost use Rattle.luf_descent.specs.Stops.{Known};
+ghost use Rattle.luf_descent.specs.PartStops.{StopsArm, StopsArms, StopsElse, StopsStat};
 ghost use Rattle.luf_descent.specs.Follow.{begins_prefix};
 ghost use Rattle.luf_descent.specs.Parts.{ReadArm, ReadArms, ReadDo, ReadElse, ReadFunctionStat, ReadGoto, ReadIf, ReadLabel, ReadLocal, ReadRepeat, ReadShort, ReadStat, ReadWhile};
 
@@ -29,8 +30,8 @@ use std::alloc::Global;
 #[cycle(parse)]
 pub fn stat(alloc: Global, cut: &Cut, left: u32, at: u32) -> Result<Stat, ParseErr>
     ensures ok { IfOk result (λ s. Found (toks_of cut.now) (at + 1) (out-Stat s).to left (stat_levels s) (IsStat (toks_of cut.now) at (out-Stat s).to s)) }
-    ensures only { IfOk result (Alone (ReadStat (toks_of cut.now) left at)) }
-    ensures none { IfErr result (Refutes (toks_of cut.now) (ReadStat (toks_of cut.now) left at)) }
+    ensures known { IfOk result (λ s. Known (toks_of cut.now) (out-Stat s).to (λ l n. ReadStat l n at) s) }
+    ensures stops { at ≤ length (toks_of cut.now) → IfErr result (StopsStat (toks_of cut.now) left at (λ l n. ReadStat l n at)) }
 {
     if begins_prefix(cut, at) {
         return expr_stat(alloc, cut, left, at);
@@ -62,8 +63,8 @@ pub fn stat(alloc: Global, cut: &Cut, left: u32, at: u32) -> Result<Stat, ParseE
 /// A statement of words and names alone: `break`, `goto`, a label or a `;`.
 fn short_stat(cut: &Cut, at: u32) -> Result<Stat, ParseErr>
     ensures ok { IfOk result (λ s. Found (toks_of cut.now) (at + 1) (out-Stat s).to 0 (stat_levels s) (IsStat (toks_of cut.now) at (out-Stat s).to s)) }
-    ensures only { IfOk result (Alone (ReadShort (toks_of cut.now) at)) }
-    ensures none { IfErr result (Refutes (toks_of cut.now) (ReadShort (toks_of cut.now) at)) }
+    ensures known { IfOk result (λ s. Known (toks_of cut.now) (out-Stat s).to (λ l n. ReadShort l at) s) }
+    ensures stops { (left : ℕ) → at ≤ length (toks_of cut.now) → IfErr result (StopsStat (toks_of cut.now) left at (λ l n. ReadShort l at)) }
 {
     if let Some(to) = eat(cut, at, Tok::Word(Word::Break)) {
         return Ok(Stat {
@@ -99,8 +100,8 @@ fn begins_prefix(cut: &Cut, at: u32) -> bool
 fn label_stat(cut: &Cut, at: u32, name: u32) -> Result<Stat, ParseErr>
     requires { IsToken (toks_of cut.now) at (Tok.Sign sign.DoubleColon) name }
     ensures ok { IfOk result (λ s. Found (toks_of cut.now) (at + 1) (out-Stat s).to 0 (stat_levels s) (IsStat (toks_of cut.now) at (out-Stat s).to s)) }
-    ensures only { IfOk result (Alone (ReadLabel (toks_of cut.now) at name)) }
-    ensures none { IfErr result (Refutes (toks_of cut.now) (ReadLabel (toks_of cut.now) at name)) }
+    ensures known { IfOk result (λ s. Known (toks_of cut.now) (out-Stat s).to (λ l n. ReadLabel l at name) s) }
+    ensures stops { (left : ℕ) → name ≤ length (toks_of cut.now) → IfErr result (StopsStat (toks_of cut.now) left at (λ l n. ReadLabel l at name)) }
 {
     let close = expect(cut, name, Tok::Name)?;
     let to = expect(cut, close, Tok::Sign(Sign::DoubleColon))?;
@@ -115,8 +116,8 @@ fn label_stat(cut: &Cut, at: u32, name: u32) -> Result<Stat, ParseErr>
 fn goto_stat(cut: &Cut, at: u32, name: u32) -> Result<Stat, ParseErr>
     requires { IsToken (toks_of cut.now) at (Tok.Word word.Goto) name }
     ensures ok { IfOk result (λ s. Found (toks_of cut.now) (at + 1) (out-Stat s).to 0 (stat_levels s) (IsStat (toks_of cut.now) at (out-Stat s).to s)) }
-    ensures only { IfOk result (Alone (ReadGoto (toks_of cut.now) at name)) }
-    ensures none { IfErr result (Refutes (toks_of cut.now) (ReadGoto (toks_of cut.now) at name)) }
+    ensures known { IfOk result (λ s. Known (toks_of cut.now) (out-Stat s).to (λ l n. ReadGoto l at name) s) }
+    ensures stops { (left : ℕ) → name ≤ length (toks_of cut.now) → IfErr result (StopsStat (toks_of cut.now) left at (λ l n. ReadGoto l at name)) }
 {
     let to = expect(cut, name, Tok::Name)?;
     Ok(Stat {
@@ -132,8 +133,8 @@ fn do_stat(alloc: Global, cut: &Cut, left: u32, at: u32, next: u32) -> Result<St
     requires within { next ≤ length (toks_of cut.now) }
     requires word { IsToken (toks_of cut.now) at (Tok.Word word.Do) next }
     ensures ok { IfOk result (λ s. Found (toks_of cut.now) (at + 1) (out-Stat s).to left (stat_levels s) (IsStat (toks_of cut.now) at (out-Stat s).to s)) }
-    ensures only { IfOk result (Alone (ReadDo (toks_of cut.now) left at next)) }
-    ensures none { IfErr result (Refutes (toks_of cut.now) (ReadDo (toks_of cut.now) left at next)) }
+    ensures known { IfOk result (λ s. Known (toks_of cut.now) (out-Stat s).to (λ l n. ReadDo l n at next) s) }
+    ensures stops { IfErr result (StopsStat (toks_of cut.now) left at (λ l n. ReadDo l n at next)) }
 {
     let (body, to) = ended_block(alloc, cut, left, at, next)?;
     Ok(Stat {
@@ -148,8 +149,8 @@ fn do_stat(alloc: Global, cut: &Cut, left: u32, at: u32, next: u32) -> Result<St
 fn while_stat(alloc: Global, cut: &Cut, left: u32, at: u32, next: u32) -> Result<Stat, ParseErr>
     requires word { IsToken (toks_of cut.now) at (Tok.Word word.While) next }
     ensures ok { IfOk result (λ s. Found (toks_of cut.now) (at + 1) (out-Stat s).to left (stat_levels s) (IsStat (toks_of cut.now) at (out-Stat s).to s)) }
-    ensures only { IfOk result (Alone (ReadWhile (toks_of cut.now) left at next)) }
-    ensures none { IfErr result (Refutes (toks_of cut.now) (ReadWhile (toks_of cut.now) left at next)) }
+    ensures known { IfOk result (λ s. Known (toks_of cut.now) (out-Stat s).to (λ l n. ReadWhile l n at next) s) }
+    ensures stops { next ≤ length (toks_of cut.now) → IfErr result (StopsStat (toks_of cut.now) left at (λ l n. ReadWhile l n at next)) }
 {
     let test = expr(alloc, cut, left, next, 1)?;
     let opener = test.to;
@@ -164,8 +165,8 @@ fn repeat_stat(alloc: Global, cut: &Cut, left: u32, at: u32, next: u32) -> Resul
     requires within { next ≤ length (toks_of cut.now) }
     requires word { IsToken (toks_of cut.now) at (Tok.Word word.Repeat) next }
     ensures ok { IfOk result (λ s. Found (toks_of cut.now) (at + 1) (out-Stat s).to left (stat_levels s) (IsStat (toks_of cut.now) at (out-Stat s).to s)) }
-    ensures only { IfOk result (Alone (ReadRepeat (toks_of cut.now) left at next)) }
-    ensures none { IfErr result (Refutes (toks_of cut.now) (ReadRepeat (toks_of cut.now) left at next)) }
+    ensures known { IfOk result (λ s. Known (toks_of cut.now) (out-Stat s).to (λ l n. ReadRepeat l n at next) s) }
+    ensures stops { IfErr result (StopsStat (toks_of cut.now) left at (λ l n. ReadRepeat l n at next)) }
 {
     let inner = enter(cut, left, at)?;
     let body = block(alloc, cut, inner, next)?;
@@ -179,8 +180,8 @@ fn repeat_stat(alloc: Global, cut: &Cut, left: u32, at: u32, next: u32) -> Resul
 fn if_stat(alloc: Global, cut: &Cut, left: u32, at: u32, next: u32) -> Result<Stat, ParseErr>
     requires word { IsToken (toks_of cut.now) at (Tok.Word word.If) next }
     ensures ok { IfOk result (λ s. Found (toks_of cut.now) (at + 1) (out-Stat s).to left (stat_levels s) (IsStat (toks_of cut.now) at (out-Stat s).to s)) }
-    ensures only { IfOk result (Alone (ReadIf (toks_of cut.now) left at next)) }
-    ensures none { IfErr result (Refutes (toks_of cut.now) (ReadIf (toks_of cut.now) left at next)) }
+    ensures known { IfOk result (λ s. Known (toks_of cut.now) (out-Stat s).to (λ l n. ReadIf l n at next) s) }
+    ensures stops { next ≤ length (toks_of cut.now) → IfErr result (StopsStat (toks_of cut.now) left at (λ l n. ReadIf l n at next)) }
 {
     let (arms, after) = arms(alloc, cut, left, next)?;
     let (last, close) = else_block(alloc, cut, left, after)?;
@@ -196,8 +197,8 @@ fn if_stat(alloc: Global, cut: &Cut, left: u32, at: u32, next: u32) -> Result<St
 #[cycle(parse)]
 fn arms(alloc: Global, cut: &Cut, left: u32, mut at: u32) -> Result<(Items<Arm>, u32), ParseErr>
     ensures ok { IfOk result (λ r. Found (toks_of cut.now) (at + 1) r.1 left (deepest (map arm_levels r.0)) (AreArms (toks_of cut.now) at r.1 r.0)) }
-    ensures only { IfOk result (Alone (ReadArms (toks_of cut.now) left at)) }
-    ensures none { IfErr result (Refutes (toks_of cut.now) (ReadArms (toks_of cut.now) left at)) }
+    ensures known { IfOk result (λ r. Known (toks_of cut.now) r.1 (λ l n. ReadArms l n at) r) }
+    ensures stops { at ≤ length (toks_of cut.now) → IfErr result (StopsArms (toks_of cut.now) left at) }
 {
     let mut found = Growing::new(alloc);
     loop {
@@ -214,8 +215,8 @@ fn arms(alloc: Global, cut: &Cut, left: u32, mut at: u32) -> Result<(Items<Arm>,
 #[cycle(parse)]
 fn arm(alloc: Global, cut: &Cut, left: u32, at: u32) -> Result<(Arm, u32), ParseErr>
     ensures ok { IfOk result (λ r. Found (toks_of cut.now) (at + 1) r.1 left (arm_levels r.0) (IsArm (toks_of cut.now) at r.1 r.0)) }
-    ensures only { IfOk result (Alone (ReadArm (toks_of cut.now) left at)) }
-    ensures none { IfErr result (Refutes (toks_of cut.now) (ReadArm (toks_of cut.now) left at)) }
+    ensures known { IfOk result (λ r. Known (toks_of cut.now) r.1 (λ l n. ReadArm l n at) r) }
+    ensures stops { at ≤ length (toks_of cut.now) → IfErr result (StopsArm (toks_of cut.now) left at) }
 {
     let test = expr(alloc, cut, left, at, 1)?;
     let opener = test.to;
@@ -236,8 +237,8 @@ fn else_block(
 ) -> Result<(Option<Boxed<Block>>, u32), ParseErr>
     requires within { at ≤ length (toks_of cut.now) }
     ensures ok { IfOk result (λ r. Found (toks_of cut.now) at r.1 left (block_if_there (option_map block_levels r.0)) (IsElse (toks_of cut.now) at r.1 r.0)) }
-    ensures only { IfOk result (Alone (ReadElse (toks_of cut.now) left at)) }
-    ensures none { IfErr result (Refutes (toks_of cut.now) (ReadElse (toks_of cut.now) left at)) }
+    ensures known { IfOk result (λ r. Known (toks_of cut.now) r.1 (λ l n. ReadElse l n at) r) }
+    ensures stops { IfErr result (StopsElse (toks_of cut.now) left at) }
 {
     let Some(inside) = eat(cut, at, Tok::Word(Word::Else)) else {
         return Ok((None, at));
@@ -253,8 +254,8 @@ fn else_block(
 fn function_stat(alloc: Global, cut: &Cut, left: u32, at: u32, next: u32) -> Result<Stat, ParseErr>
     requires word { IsToken (toks_of cut.now) at (Tok.Word word.Function) next }
     ensures ok { IfOk result (λ s. Found (toks_of cut.now) (at + 1) (out-Stat s).to left (stat_levels s) (IsStat (toks_of cut.now) at (out-Stat s).to s)) }
-    ensures only { IfOk result (Alone (ReadFunctionStat (toks_of cut.now) left at next)) }
-    ensures none { IfErr result (Refutes (toks_of cut.now) (ReadFunctionStat (toks_of cut.now) left at next)) }
+    ensures known { IfOk result (λ s. Known (toks_of cut.now) (out-Stat s).to (λ l n. ReadFunctionStat l n at next) s) }
+    ensures stops { next ≤ length (toks_of cut.now) → IfErr result (StopsStat (toks_of cut.now) left at (λ l n. ReadFunctionStat l n at next)) }
 {
     let inner = enter(cut, left, at)?;
     let (path, dot) = path(alloc, cut, next)?;
@@ -268,8 +269,8 @@ fn function_stat(alloc: Global, cut: &Cut, left: u32, at: u32, next: u32) -> Res
 fn local_stat(alloc: Global, cut: &Cut, left: u32, at: u32, next: u32) -> Result<Stat, ParseErr>
     requires word { IsToken (toks_of cut.now) at (Tok.Word word.Local) next }
     ensures ok { IfOk result (λ s. Found (toks_of cut.now) (at + 1) (out-Stat s).to left (stat_levels s) (IsStat (toks_of cut.now) at (out-Stat s).to s)) }
-    ensures only { IfOk result (Alone (ReadLocal (toks_of cut.now) left at next)) }
-    ensures none { IfErr result (Refutes (toks_of cut.now) (ReadLocal (toks_of cut.now) left at next)) }
+    ensures known { IfOk result (λ s. Known (toks_of cut.now) (out-Stat s).to (λ l n. ReadLocal l n at next) s) }
+    ensures stops { next ≤ length (toks_of cut.now) → IfErr result (StopsStat (toks_of cut.now) left at (λ l n. ReadLocal l n at next)) }
 {
     if let Some(name) = eat(cut, next, Tok::Word(Word::Function)) {
         let inner = enter(cut, left, next)?;

@@ -6,7 +6,8 @@ ghost use Rattle.luf_tree.specs.declared.tree.Expr.{out-Expr};
 ghost use Rattle.luf_tree.specs.Grammar.{IsToken, IsSimple, IsTable, IsField, AreFields};
 ghost use Rattle.luf_tree.specs.Level.{deepest, expr_levels, field_levels};
 ghost use Rattle.luf_descent.specs.Reads.{Found};
-ghost use Rattle.luf_descent.specs.Exact.{Alone, Refutes};
+ghost use Rattle.luf_descent.specs.Stops.{Known};
+ghost use Rattle.luf_descent.specs.PartStops.{StopsField, StopsFields, StopsSimple, StopsTable};
 ghost use Rattle.luf_descent.specs.Follow.{IsAssigned, NotAssigned, IsSeparator};
 ghost use Rattle.luf_descent.specs.Parts.{ReadField, ReadFields, ReadKeyed, ReadTable, ReadTableExpr};
 
@@ -23,8 +24,8 @@ use std::alloc::Global;
 #[cycle(parse)]
 pub fn table_expr(alloc: Global, cut: &Cut, left: u32, at: u32) -> Result<Expr, ParseErr>
     ensures ok { IfOk result (λ e. Found (toks_of cut.now) (at + 1) (out-Expr e).to left (expr_levels e) (IsSimple (toks_of cut.now) at (out-Expr e).to e)) }
-    ensures only { IfOk result (Alone (ReadTableExpr (toks_of cut.now) left at)) }
-    ensures none { IfErr result (Refutes (toks_of cut.now) (ReadTableExpr (toks_of cut.now) left at)) }
+    ensures known { IfOk result (λ e. Known (toks_of cut.now) (out-Expr e).to (λ l n. ReadTableExpr l n at) e) }
+    ensures stops { at ≤ length (toks_of cut.now) → IfErr result (StopsSimple (toks_of cut.now) left at (λ l n. ReadTableExpr l n at)) }
 {
     let (fields, to) = table(alloc, cut, left, at)?;
     Ok(Expr {
@@ -38,8 +39,8 @@ pub fn table_expr(alloc: Global, cut: &Cut, left: u32, at: u32) -> Result<Expr, 
 #[cycle(parse)]
 pub fn table(alloc: Global, cut: &Cut, left: u32, at: u32) -> Result<(Items<Field>, u32), ParseErr>
     ensures ok { IfOk result (λ r. Found (toks_of cut.now) (at + 1) r.1 left (deepest (map field_levels r.0) + 1) (IsTable (toks_of cut.now) at r.1 r.0)) }
-    ensures only { IfOk result (Alone (ReadTable (toks_of cut.now) left at)) }
-    ensures none { IfErr result (Refutes (toks_of cut.now) (ReadTable (toks_of cut.now) left at)) }
+    ensures known { IfOk result (λ r. Known (toks_of cut.now) r.1 (λ l n. ReadTable l n at) r) }
+    ensures stops { at ≤ length (toks_of cut.now) → IfErr result (StopsTable (toks_of cut.now) left at) }
 {
     let first = expect(cut, at, Tok::Sign(Sign::LeftBrace))?;
     let inner = enter(cut, left, at)?;
@@ -53,8 +54,8 @@ pub fn table(alloc: Global, cut: &Cut, left: u32, at: u32) -> Result<(Items<Fiel
 fn fields(alloc: Global, cut: &Cut, left: u32, mut at: u32) -> Result<(Items<Field>, u32), ParseErr>
     requires within { at ≤ length (toks_of cut.now) }
     ensures ok { IfOk result (λ r. Found (toks_of cut.now) at r.1 left (deepest (map field_levels r.0)) (AreFields (toks_of cut.now) at r.1 r.0)) }
-    ensures only { IfOk result (Alone (ReadFields (toks_of cut.now) left at)) }
-    ensures none { IfErr result (Refutes (toks_of cut.now) (ReadFields (toks_of cut.now) left at)) }
+    ensures known { IfOk result (λ r. Known (toks_of cut.now) r.1 (λ l n. ReadFields l n at) r) }
+    ensures stops { IfErr result (StopsFields (toks_of cut.now) left at) }
 {
     let mut found = Growing::new(alloc);
     'fields: loop {
@@ -88,8 +89,8 @@ fn separator(cut: &Cut, at: u32) -> Option<u32>
 #[cycle(parse)]
 fn field(alloc: Global, cut: &Cut, left: u32, at: u32) -> Result<(Field, u32), ParseErr>
     ensures ok { IfOk result (λ r. Found (toks_of cut.now) (at + 1) r.1 left (field_levels r.0) (IsField (toks_of cut.now) at r.1 r.0)) }
-    ensures only { IfOk result (Alone (ReadField (toks_of cut.now) left at)) }
-    ensures none { IfErr result (Refutes (toks_of cut.now) (ReadField (toks_of cut.now) left at)) }
+    ensures known { IfOk result (λ r. Known (toks_of cut.now) r.1 (λ l n. ReadField l n at) r) }
+    ensures stops { at ≤ length (toks_of cut.now) → IfErr result (StopsField (toks_of cut.now) left at (λ l n. ReadField l n at)) }
 {
     if let Some(inside) = eat(cut, at, Tok::Sign(Sign::LeftBracket)) {
         return keyed(alloc, cut, left, at, inside);
@@ -124,8 +125,8 @@ fn keyed(
 ) -> Result<(Field, u32), ParseErr>
     requires sign { IsToken (toks_of cut.now) at (Tok.Sign sign.LeftBracket) inside }
     ensures ok { IfOk result (λ r. Found (toks_of cut.now) (at + 1) r.1 left (field_levels r.0) (IsField (toks_of cut.now) at r.1 r.0)) }
-    ensures only { IfOk result (Alone (ReadKeyed (toks_of cut.now) left inside)) }
-    ensures none { IfErr result (Refutes (toks_of cut.now) (ReadKeyed (toks_of cut.now) left inside)) }
+    ensures known { IfOk result (λ r. Known (toks_of cut.now) r.1 (λ l n. ReadKeyed l n inside) r) }
+    ensures stops { inside ≤ length (toks_of cut.now) → IfErr result (StopsField (toks_of cut.now) left at (λ l n. ReadKeyed l n inside)) }
 {
     let inner = enter(cut, left, at)?;
     let key = expr(alloc, cut, inner, inside, 1)?;

@@ -3,8 +3,7 @@ ghost use Rattle.std.specs.Prelude.{◌≡◌, ◌+◌, ◌<◌, ◌≤◌, ◌�
 ghost use Rattle.luf_lex.specs.Tokens.{toks_of};
 ghost use Rattle.luf_tree.specs.Grammar.{At, IsToken};
 ghost use Rattle.luf_tree.specs.Operator as operator;
-ghost use Rattle.luf_descent.specs.Exact.{OfToken};
-ghost use Rattle.luf_descent.specs.Exact.{Alone, Refutes, Enters};
+ghost use Rattle.luf_descent.specs.Stops.{Missing, NoLevel};
 ghost use Rattle.luf_descent.specs.Reads as reads;
 ghost use Rattle.luf_descent.specs.Follow as follow;
 
@@ -40,8 +39,7 @@ pub fn eat(cut: &Cut, at: u32, tok: Tok) -> Option<u32>
 pub fn expect(cut: &Cut, at: u32, tok: Tok) -> Result<u32, ParseErr>
     ensures token { IfOk result (λ next. IsToken (toks_of cut.now) at tok next) }
     ensures within { IfOk result (λ next. next ≤ length (toks_of cut.now)) }
-    ensures only { IfOk result (Alone (IsToken (toks_of cut.now) at tok)) }
-    ensures none { IfErr result (Refutes (toks_of cut.now) (IsToken (toks_of cut.now) at tok)) }
+    ensures missing { at ≤ length (toks_of cut.now) → IfErr result (Missing (toks_of cut.now) at tok) }
 {
     match eat(cut, at, tok) {
         Some(next) => Ok(next),
@@ -51,7 +49,7 @@ pub fn expect(cut: &Cut, at: u32, tok: Tok) -> Result<u32, ParseErr>
 
 /// The refusal of the token at a place, or of the end.
 pub fn refusal(cut: &Cut, at: u32) -> ParseErr
-    ensures { OfToken (λ token. token ≤ length (toks_of cut.now)) result }
+    ensures { at ≤ length (toks_of cut.now) → result ≡ ParseErr.Syntax at }
 {
     ParseErr::Syntax {
         token: at.min(cut.tokens()),
@@ -61,8 +59,7 @@ pub fn refusal(cut: &Cut, at: u32) -> ParseErr
 /// One level less, which the token at a place enters; a refusal where none is left.
 pub fn enter(cut: &Cut, left: u32, at: u32) -> Result<u32, ParseErr>
     ensures ok { IfOk result (λ inner. left ≡ inner + 1) }
-    ensures only { IfOk result (Alone (Enters left)) }
-    ensures none { IfErr result (Refutes (toks_of cut.now) (Enters left)) }
+    ensures full { at < length (toks_of cut.now) → IfErr result (NoLevel left at) }
 {
     if left == 0 {
         return Err(ParseErr::TooDeep {

@@ -15,16 +15,16 @@ use Rattle.luf_tree.proofs.Alone.{cut_agrees, cut_off}
 use Rattle.luf_tree.proofs.Locality.{local_block}
 use Rattle.luf_exact.proofs.SameEntries.{same_entries}
 use Rattle.luf_descent.specs.Parts.{ReadBlock}
-use Rattle.luf_exact.specs.inner.PartEntries.{block_entries}
-use Rattle.luf_exact.specs.inner.PartStops.{StopsBlock}
-use Rattle.luf_exact.specs.inner.Stops.{Known, Kind, wrong, deep, behind, Stand, stand_none, stand_more, Within, Completes}
+use Rattle.luf_descent.specs.PartEntries.{block_entries}
+use Rattle.luf_descent.specs.PartStops.{StopsBlock}
+use Rattle.luf_descent.specs.Stops.{Known, Kind, wrong, deep, behind, Stand, stand_none, stand_more, Within, Completes}
 use Rattle.luf_descent.specs.declared.error.ParseErr.{ParseErr}
 use Rattle.luf_descent.specs.declared.error.ParseErr.TheVariants as error
 use Rattle.luf_descent.proofs.Ends.{block_to}
-use Rattle.luf_exact.proofs.Completing.{agree_less}
-use Rattle.luf_exact.proofs.Low.{low_block}
+use Rattle.luf_descent.proofs.Completing.{agree_less}
+use Rattle.luf_descent.proofs.Low.{low_block}
 use Rattle.luf_exact.specs.Exact.{Begins, EntersTooDeep, IsSyntaxAt, IsExactCause}
-use Rattle.luf_parse.proofs.AllTokens.{chunk_read}
+use Rattle.luf_exact.proofs.WholeBlock.{chunk_read}
 
 -- tokens behind others
 longer : (xs ys : List Tok) (k : ℕ) → k < length xs → slice_get (xs ++ ys) k ≡ slice_get xs k

@@ -20,7 +20,7 @@ use Rattle.luf_tree.specs.Grammar as g
 use Rattle.luf_tree.specs.Grammar.{expression, IsToken, AreNames, AreParams, IsAttribute, AreDeclared, IsPath, IsMethod, IsSemicolon, IsExpr, AreSteps, IsOperand, IsSimple, IsPrefix, IsVariable, IsCall, IsParen, IsHead, AreSuffixes, IsSuffix, IsArgs, AreExprs, IsTable, AreFields, IsField, IsFuncBody, IsBlock, AreStats, IsReturn, IsStat, AreTargets, IsArm, AreArms, IsElse, IsForStep}
 use Rattle.luf_tree.specs.Entry.{Entry, entered, entries_of_expression, entries_of_optional_expression, entries_of_expressions, entries_of_operation, entries_of_operations, entries_of_suffix, entries_of_suffixes, entries_of_arguments, entries_of_field, entries_of_fields, entries_of_statement, entries_of_statements, entries_of_arm, entries_of_arms, entries_of_block, entries_of_optional_block, entries_of_function_body}
 use Rattle.luf_tree.proofs.SyntaxEquations as eq
-use Rattle.luf_exact.proofs.EntryOpeners.{expr_opener, block_opener}
+use Rattle.luf_descent.proofs.EntryOpeners.{expr_opener, block_opener}
 use Rattle.luf_exact.proofs.Nesting.{Before, fresh, prefix, whole, head, params, Hold, soft, hard, twin, Nest, nest, level, settle, entry_at, Runs, halt, runs_as, token_run, move_run, ◌⨾◌, ◌⊳◌}
 use Rattle.luf_exact.proofs.NestingEnds.{Stops, prefix_stops, whole_stops, Ended, ended, Pending, clear, named, pending, Finishes, Passes, Simply, passing, ended_out, settled, closed, braced, twinned, opened, turned, function_opened, Starts, fresh_starts, pending_starts, operator_run, unary_softens}
 

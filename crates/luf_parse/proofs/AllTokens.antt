@@ -1,42 +1,24 @@
--- All tokens: what refutes their block refutes each tree.
-use Rattle.std.proofs.Common.{◌≡◌, ℕ, ◌≤◌, List, length, sym, ap, ◌∙◌, subst, arith}
-use Rattle.std.proofs.lemmas.Option.{slice_get_past}
+-- All tokens: the exact cause is a cause, and a block that does not have all of them.
+use Rattle.std.proofs.Common.{◌≡◌, ℕ, List, sym, subst, Ok, Err}
+use Rattle.std.specs.Prelude.{Result, IfErr}
 use Rattle.luf_lex.specs.declared.token.Tok.{Tok}
-use Rattle.luf_tree.specs.declared.tree.Block.{Block, out-Block}
 use Rattle.luf_tree.specs.declared.tree.Chunk.{Chunk}
-use Rattle.luf_tree.specs.Grammar.{IsBlock, IsChunk}
-use Rattle.luf_tree.specs.Level.{depth_of, level_limit}
-use Rattle.luf_descent.specs.Exact.{OfToken}
-use Rattle.luf_parse.specs.Cause.{HasNoTree, IsCause}
-use Rattle.luf_descent.specs.Exact.{Alone, Refutes}
-use Rattle.luf_descent.specs.Follow.{ends_block, EndsBlock}
-use Rattle.luf_descent.specs.Parts.{ReadBlock}
+use Rattle.luf_exact.specs.Exact.{IsSyntaxAt, IsExactCause}
+use Rattle.luf_exact.proofs.ExactLaws.{cause_within, cause_no_tree}
+use Rattle.luf_parse.specs.Cause.{IsCause}
 use Rattle.luf_descent.specs.declared.error.ParseErr.{ParseErr}
 use Rattle.luf_descent.specs.declared.error.ParseErr.TheVariants as error
-use Rattle.luf_descent.proofs.Ends.{block_to}
 
--- a block ends behind the last token
-pub end_ends_block : (toks : List Tok) → EndsBlock toks (length toks)
-end_ends_block toks = ap ends_block (slice_get_past toks (length toks) (omega arith))
+-- an exact cause names a token of the list or the end, and leaves no tree
+exact_is_cause : (toks : List Tok) (e : ParseErr) → IsExactCause toks e → IsCause toks e
+exact_is_cause toks (error.Syntax t) h = (cause_within toks (error.Syntax t) h, λ chunk. cause_no_tree toks (error.Syntax t) chunk h (λ z. cc))
+exact_is_cause toks (error.TooDeep t) h = (cause_within toks (error.TooDeep t) h, λ chunk. cause_no_tree toks (error.TooDeep t) chunk h (λ z. cc))
+exact_is_cause toks error.Memory h = tt
 
--- a tree is a block of all tokens
-pub chunk_read : {toks : List Tok} {left : ℕ} (c : Chunk) → IsChunk toks c → depth_of c ≤ left → ReadBlock toks left 0 c.block
-chunk_read {toks} c tree depth = record {
-  is = subst (λ p. IsBlock toks 0 p c.block) (sym (block_to tree)) tree;
-  ends = subst (λ p. EndsBlock toks p) (sym (block_to tree)) (end_ends_block toks);
-  level = depth;
-}
+pub refused_exactly : (toks : List Tok) (r : Result Chunk ParseErr) → IfErr r (IsExactCause toks) → IfErr r (IsCause toks)
+refused_exactly toks (Ok chunk) h = cc
+refused_exactly toks (Err e) h = exact_is_cause toks e h
 
-cause : {toks : List Tok} (e : ParseErr) → OfToken (λ token. token ≤ length toks) e → ((e ≡ error.Memory → ⊥) → HasNoTree toks) → IsCause toks e
-cause (error.Syntax t) within none = (within, none (λ z. cc))
-cause (error.TooDeep t) within none = (within, none (λ z. cc))
-cause error.Memory within none = tt
-
--- the block of all tokens is refuted
-pub refused_cause : {toks : List Tok} {e : ParseErr} → Refutes toks (ReadBlock toks level_limit 0) e → IsCause toks e
-refused_cause {toks} {e} none = cause e none.token (λ known c tree depth. none.nothing known c.block (chunk_read c tree depth))
-
--- the one block that there is does not have all tokens
-pub short_cause : {toks : List Tok} {b : Block} (e : ParseErr) → OfToken (λ token. token ≤ length toks) e → Alone (ReadBlock toks level_limit 0) b → ((out-Block b).to ≡ length toks → ⊥) → IsCause toks e
-short_cause {toks} {b} e within only short =
-    cause e within (λ known c tree depth. short (ap (λ (z : Block). (out-Block z).to) (sym (only c.block (chunk_read c tree depth))) ∙ block_to tree))
+-- the refusal of the token behind a block
+pub short_exactly : {toks : List Tok} {t : ℕ} {e : ParseErr} → e ≡ error.Syntax t → IsSyntaxAt toks t → IsExactCause toks e
+short_exactly {toks} is h = subst (IsExactCause toks) (sym is) h

@@ -31,7 +31,7 @@ use Rattle.luf_descent.specs.Follow.{NotAt, continues_prefix, EndsOperand, EndsE
 use Rattle.luf_descent.specs.Parts.{ReadSteps, ReadOperand, ReadSimple, ReadTable, ReadFields, ReadField, ReadExprs, ReadPrefix, ReadParen, ReadSuffix, ReadArgs, ReadFuncBody, ReadBlock, ReadStats, ReadReturn, ReadStat, ReadArms, ReadArm, ReadElse, ReadForStep}
 use Rattle.luf_descent.specs.Reads.{token_begins_suffix, begins_suffix}
 use Rattle.luf_descent.specs.declared.prefixes.Shape.TheVariants.{Variable, Call, Paren}
-use Rattle.luf_parse.proofs.AllTokens.{end_ends_block, chunk_read}
+use Rattle.luf_exact.proofs.WholeBlock.{end_ends_block, chunk_read}
 use Rattle.luf_descent.proofs.Begins.{table_begins, suffixes_begin, steps_begin, exprs_start, begins_args, args_begin, field_begins}
 use Rattle.luf_descent.proofs.Ends.{moved, variable_to, call_to, simple_to, operand_to, expr_to, args_to, body_to, block_to, return_to, stat_to}
 use Rattle.luf_descent.proofs.Exactness.{alone_form, alone_next, alone_is, token_only}

@@ -4,6 +4,7 @@ ghost use Rattle.luf_lex.specs.Tokens.{toks_of};
 ghost use Rattle.luf_tree.specs.declared.tree.Chunk.{Chunk as Tree};
 ghost use Rattle.luf_tree.specs.Grammar.{IsChunk};
 ghost use Rattle.luf_tree.specs.Level.{level_limit, depth_of};
+ghost use Rattle.luf_exact.specs.Exact.{IsExactCause};
 ghost use Rattle.luf_parse.specs.Cause.{IsCause};
 
 use luf_descent::{ParseErr, block, refusal};
@@ -16,11 +17,14 @@ use std::alloc::Global;
 ///
 /// # Errors
 ///
-/// `Syntax` or `TooDeep` with a token, or with the number of tokens for the end, exactly where there is no such tree.
-/// Which of the two it is, and at which token, no clause says yet. `Memory`.
+/// Exactly where there is no such tree: `TooDeep` with the first token that enters a level too many in some list that
+/// begins with the tokens up to it and that the grammar derives; else `Syntax` with the first token with which those up
+/// to it begin no such list, or with the number of tokens for the end. A list of tokens has at most one such cause
+/// (`luf_exact::one_cause`). `Memory`.
 pub fn parse(alloc: Global, cut: &Cut) -> Result<Chunk, ParseErr>
     ensures tree { IfOk result (λ chunk. IsChunk (toks_of cut.now) chunk) }
     ensures depth { IfOk result (λ chunk. depth_of chunk ≤ level_limit) }
+    ensures exact { IfErr result (IsExactCause (toks_of cut.now)) }
     ensures refused { IfErr result (IsCause (toks_of cut.now)) }
     ensures complete { (tree : Tree) → IsChunk (toks_of cut.now) tree → depth_of tree ≤ level_limit → (result ≡ Ok tree) ⊎ (result ≡ Err ParseErr.Memory) }
 {
@@ -31,7 +35,7 @@ pub fn parse(alloc: Global, cut: &Cut) -> Result<Chunk, ParseErr>
 fn whole(alloc: Global, cut: &Cut) -> Result<Chunk, ParseErr>
     ensures tree { IfOk result (λ chunk. IsChunk (toks_of cut.now) chunk) }
     ensures depth { IfOk result (λ chunk. depth_of chunk ≤ level_limit) }
-    ensures refused { IfErr result (IsCause (toks_of cut.now)) }
+    ensures exact { IfErr result (IsExactCause (toks_of cut.now)) }
 {
     let block = block(alloc, cut, LEVEL_LIMIT, 0)?;
     if block.to != cut.tokens() {

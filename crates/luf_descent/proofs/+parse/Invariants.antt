@@ -1,14 +1,15 @@
-use Rattle.std.proofs.Common.{Bool, ◌≡◌, ◌+◌, ◌-◌, ◌*◌, ◌≤◌, length, map}
+use Rattle.std.proofs.Common.{ℕ, ◌+◌, ◌-◌, ◌*◌, ◌≤◌, List, length, map}
+use Rattle.luf_lex.specs.declared.token.Tok.{Tok}
 use Rattle.luf_lex.specs.Tokens.{toks_of}
 use Rattle.luf_tree.specs.declared.tree.Expr.{Expr, out-Expr}
+use Rattle.luf_tree.specs.Agree.{AgreeBefore}
 use Rattle.luf_tree.specs.Level.{deepest, expr_levels, field_levels, step_levels, suffix_levels, stat_levels, arm_levels}
-use Rattle.luf_tree.specs.Grammar.{IsExpr, AreSteps, AreFields, AreExprs, AreSuffixes, AreStats, AreArms, AreTargets, IsVariable}
+use Rattle.luf_tree.specs.Grammar.{IsExpr, IsVariable}
 use Rattle.luf_descent.specs.Reads.{Found}
 use Rattle.luf_descent.specs.Follow.{precedence_at}
-use Rattle.luf_descent.specs.Parts.{ReadExpr, ReadExprs, ReadFields, ReadArms, ReadStats, ReadMoreTargets, ReadSteps}
-use Rattle.luf_descent.proofs.Exactness.{Ahead}
-use Rattle.luf_descent.proofs.ExprForms.{SuffixesRead, Grown}
-use Rattle.luf_descent.proofs.Joining.{Joins}
+use Rattle.luf_descent.specs.Parts.{ReadExpr}
+use Rattle.luf_descent.proofs.ExprForms.{Grown}
+use Rattle.luf_descent.proofs.SoFar.{ExprsSoFar, FieldsSoFar, SuffixesSoFar, StatsSoFar, ArmsSoFar, StepsSoFar, TargetsSoFar}
 use Rattle.luf_descent.proofs.+parse.Given as goal
 
 -- A level more counts 64; within a level each function has a rank above those that it calls there.
@@ -137,7 +138,7 @@ decreases-statements::local_stat l = 64 * l.left + 50
 
 abbrev pub invariant-expressions::expr-chains : goal.invariant-expressions::expr-chains
 invariant-expressions::expr-chains l = record {
-  grown : (e : Expr) → ReadExpr (toks_of l.cut) l.least l.left l.at e → Grown (toks_of l.cut) l.left l.at l.whole l.least e;
+  grown : (toks : List Tok) → AgreeBefore (toks_of l.cut) toks ((out-Expr l.whole).to + 1) → (n : ℕ) (e : Expr) → ReadExpr toks l.least n l.at e → Grown toks n l.at l.whole l.least e;
   part : Found (toks_of l.cut) (l.at + 1) (out-Expr l.whole).to l.left (expr_levels l.whole) (IsExpr (toks_of l.cut) (precedence_at (toks_of l.cut) (out-Expr l.whole).to + 1) l.at (out-Expr l.whole).to l.whole);
   least : IsExpr (toks_of l.cut) l.least l.at (out-Expr l.whole).to l.whole;
 }
@@ -147,10 +148,7 @@ decreases-expressions::expr-chains l = precedence_at (toks_of l.cut) (out-Expr l
 
 abbrev pub invariant-expressions::chain-loop-next : goal.invariant-expressions::chain-loop-next
 invariant-expressions::chain-loop-next l = record {
-  ahead : Ahead (ReadSteps (toks_of l.cut) l.precedence l.left (out-Expr l.first).to) l.rest (ReadSteps (toks_of l.cut) l.precedence l.left l.sign);
-  joins : Joins (AreSteps (toks_of l.cut) l.precedence) (out-Expr l.first).to l.sign l.rest;
-  next : precedence_at (toks_of l.cut) l.sign ≡ l.precedence;
-  forward : (out-Expr l.first).to ≤ l.sign;
+  steps : StepsSoFar (toks_of l.cut) l.precedence (out-Expr l.first).to l.sign l.rest;
   level : deepest (map step_levels l.rest) ≤ l.left;
 }
 
@@ -159,9 +157,8 @@ decreases-expressions::chain-loop-next l = length (toks_of l.cut) - l.sign
 
 abbrev pub invariant-expressions::exprs-loop-found : goal.invariant-expressions::exprs-loop-found
 invariant-expressions::exprs-loop-found l = record {
-  ahead : Ahead (ReadExprs (toks_of l.cut) l.left l.fn.at) l.found (ReadExprs (toks_of l.cut) l.left l.at);
-  joins : Joins (AreExprs (toks_of l.cut)) l.fn.at l.at l.found;
-  forward : l.fn.at ≤ l.at;
+  read : ExprsSoFar (toks_of l.cut) l.fn.at l.at l.found;
+  within : l.fn.at ≤ length (toks_of l.cut) → l.at ≤ length (toks_of l.cut);
   level : deepest (map expr_levels l.found) ≤ l.left;
 }
 
@@ -170,9 +167,7 @@ decreases-expressions::exprs-loop-found l = length (toks_of l.cut) - l.at
 
 abbrev pub invariant-tables::fields-fields : goal.invariant-tables::fields-fields
 invariant-tables::fields-fields l = record {
-  ahead : Ahead (ReadFields (toks_of l.cut) l.left l.fn.at) l.found (ReadFields (toks_of l.cut) l.left l.at);
-  joins : Joins (AreFields (toks_of l.cut)) l.fn.at l.at l.found;
-  forward : l.fn.at ≤ l.at;
+  read : FieldsSoFar (toks_of l.cut) l.fn.at l.at l.found;
   within : l.at ≤ length (toks_of l.cut);
   level : deepest (map field_levels l.found) ≤ l.left;
 }
@@ -182,9 +177,8 @@ decreases-tables::fields-fields l = length (toks_of l.cut) - l.at
 
 abbrev pub invariant-statements::arms-loop-found : goal.invariant-statements::arms-loop-found
 invariant-statements::arms-loop-found l = record {
-  ahead : Ahead (ReadArms (toks_of l.cut) l.left l.fn.at) l.found (ReadArms (toks_of l.cut) l.left l.at);
-  joins : Joins (AreArms (toks_of l.cut)) l.fn.at l.at l.found;
-  forward : l.fn.at ≤ l.at;
+  read : ArmsSoFar (toks_of l.cut) l.fn.at l.at l.found;
+  within : l.fn.at ≤ length (toks_of l.cut) → l.at ≤ length (toks_of l.cut);
   level : deepest (map arm_levels l.found) ≤ l.left;
 }
 
@@ -193,9 +187,8 @@ decreases-statements::arms-loop-found l = length (toks_of l.cut) - l.at
 
 abbrev pub invariant-prefixes::suffixes-loop-found : goal.invariant-prefixes::suffixes-loop-found
 invariant-prefixes::suffixes-loop-found l = record {
-  ahead : Ahead (SuffixesRead (toks_of l.cut) l.left l.fn.at) l.found (SuffixesRead (toks_of l.cut) l.left l.at);
-  joins : (calls : Bool) → Joins (AreSuffixes (toks_of l.cut) calls) l.fn.at l.at l.found;
-  forward : l.fn.at ≤ l.at;
+  read : SuffixesSoFar (toks_of l.cut) l.fn.at l.at l.found;
+  within : l.fn.at ≤ length (toks_of l.cut) → l.at ≤ length (toks_of l.cut);
   level : deepest (map suffix_levels l.found) ≤ l.left;
 }
 
@@ -204,9 +197,7 @@ decreases-prefixes::suffixes-loop-found l = length (toks_of l.cut) - l.at
 
 abbrev pub invariant-blocks::block-loop-stats : goal.invariant-blocks::block-loop-stats
 invariant-blocks::block-loop-stats l = record {
-  ahead : Ahead (ReadStats (toks_of l.cut) l.left l.at) l.stats (ReadStats (toks_of l.cut) l.left l.to);
-  joins : Joins (AreStats (toks_of l.cut)) l.at l.to l.stats;
-  forward : l.at ≤ l.to;
+  read : StatsSoFar (toks_of l.cut) l.at l.to l.stats;
   within : l.to ≤ length (toks_of l.cut);
   level : deepest (map stat_levels l.stats) ≤ l.left;
 }
@@ -216,8 +207,7 @@ decreases-blocks::block-loop-stats l = length (toks_of l.cut) - l.to
 
 abbrev pub invariant-assignments::targets-loop-found : goal.invariant-assignments::targets-loop-found
 invariant-assignments::targets-loop-found l = record {
-  ahead : Ahead (ReadMoreTargets (toks_of l.cut) l.left l.fn.at l.fn.first) l.found (ReadMoreTargets (toks_of l.cut) l.left l.at l.one);
-  joins : Joins (AreTargets (toks_of l.cut)) l.fn.at l.at l.found;
+  read : TargetsSoFar (toks_of l.cut) l.fn.at l.fn.first l.at l.one l.found;
   one : Found (toks_of l.cut) (l.at + 1) (out-Expr l.one).to l.left (expr_levels l.one) (IsVariable (toks_of l.cut) l.at (out-Expr l.one).to l.one);
   forward : l.fn.at ≤ l.at;
   level : deepest (map expr_levels l.found) ≤ l.left;

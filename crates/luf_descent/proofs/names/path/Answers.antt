@@ -1,23 +1,14 @@
 use Rattle.std.proofs.Common.{arith, ◌∙◌}
-use Rattle.luf_lex.specs.Tokens.{toks_of}
-use Rattle.luf_tree.specs.Grammar.{IsPath, path_end, path_more}
-use Rattle.luf_descent.proofs.Joining.{joins_none, joins_more, joins_last}
-use Rattle.luf_descent.proofs.Exactness.{passes, refutes_form, refutes_first, ahead_none, ahead_more, ahead_last, ahead_refutes, list_more, list_last}
-use Rattle.luf_descent.proofs.NameForms.{path_form}
+use Rattle.luf_descent.proofs.Knowing.{name_stopped}
+use Rattle.luf_descent.proofs.SoFar.{so_far_start}
+use Rattle.luf_descent.proofs.KnownNames.{path_more, path_known, path_found, path_stop}
 use Rattle.luf_descent.proofs.names.path.Goals as goal
 
 pub loop-found-init : goal.loop-found-init
-loop-found-init c = record { ahead = ahead_none c.new-found.ensures; joins = joins_none (IsPath (toks_of c.args.cut.now)) c.args.at _ c.new-found.ensures; forward = omega arith }
+loop-found-init c = record { read = so_far_start c.new-found.ensures; within = λ w. w }
 
 pub loop-found-preserved : goal.loop-found-preserved
-loop-found-preserved c =
-    let h0 = c.in_ok-to.ensures in
-    let h1 = c.in-Some.ensures in
-    record {
-      ahead = ahead_more _ c.loop-found.invariant.ahead c.in_ok-push.ensures.ok (list_more path_form h0.only h1.token);
-      joins = joins_more (IsPath (toks_of c.args.cut.now)) _ _ _ _ _ _ c.loop-found.invariant.joins c.in_ok-push.ensures.ok (λ k rest h. path_more h0.token h1.token h);
-      forward = omega arith;
-    }
+loop-found-preserved c = record { read = path_more c.loop-found.invariant.read c.in_ok-push.ensures.ok c.in_ok-to.ensures.token c.in-Some.ensures.token; within = λ w. c.in-Some.ensures.within }
 
 pub loop-found-smaller : goal.loop-found-smaller
 loop-found-smaller c =
@@ -25,14 +16,11 @@ loop-found-smaller c =
     let h1 = c.in-Some.ensures in
     omega arith
 
+pub returns-in_err-to-clause-stops : goal.returns-in_err-to-clause-stops
+returns-in_err-to-clause-stops c = λ within. let w = c.loop-found.invariant.within within in name_stopped _ c.from_residual.ensures.1 (path_stop c.loop-found.invariant.read w (c.in_err-to.ensures.missing w))
+
 pub returns-in-None-clause-ok : goal.returns-in-None-clause-ok
-returns-in-None-clause-ok c =
-    let h0 = c.in_ok-to.ensures in
-    record { is = joins_last (IsPath (toks_of c.args.cut.now)) _ _ _ _ _ _ c.loop-found.invariant.joins (c.exact.ensures ∙ c.in_ok-push.ensures.ok) (path_end h0.token); ends = record { forward = omega arith; within = omega arith }; level = omega arith }
+returns-in-None-clause-ok c = path_found c.loop-found.invariant.read (c.exact.ensures ∙ c.in_ok-push.ensures.ok) c.in_ok-to.ensures.token c.in_ok-to.ensures.within
 
-pub returns-in_err-to-clause-none : goal.returns-in_err-to-clause-none
-returns-in_err-to-clause-none c = passes _ c.from_residual.ensures.1 (ahead_refutes _ c.loop-found.invariant.ahead (refutes_form path_form (refutes_first c.in_err-to.ensures.none)))
-
-pub returns-in-None-clause-only : goal.returns-in-None-clause-only
-returns-in-None-clause-only c =
-    ahead_last _ c.loop-found.invariant.ahead (c.exact.ensures ∙ c.in_ok-push.ensures.ok) (list_last path_form c.in_ok-to.ensures.only (λ next u. c.in-None.ensures.other u.there))
+pub returns-in-None-clause-known : goal.returns-in-None-clause-known
+returns-in-None-clause-known c = path_known c.loop-found.invariant.read (c.exact.ensures ∙ c.in_ok-push.ensures.ok) c.in_ok-to.ensures.token c.in-None.ensures.other

@@ -1,5 +1,5 @@
 -- Where prefix expressions and assignments stop, and what completes them.
-use Rattle.std.proofs.Common.{◌≡◌, ℕ, ◌+◌, ◌<◌, ◌≤◌, Bool, true, false, None, List, [], ◌∷◌, ◌++◌, length, map, refl, sym, ap, ◌∙◌, subst, arith, append-nil, append_assoc}
+use Rattle.std.proofs.Common.{◌≡◌, ℕ, ◌<◌, ◌≤◌, Bool, true, false, None, List, [], ◌∷◌, ◌++◌, length, map, refl, sym, ap, ◌∙◌, subst, arith, append-nil, append_assoc}
 use Rattle.luf_lex.specs.declared.token.Tok.{Tok}
 use Rattle.luf_lex.specs.declared.token.Tok.TheVariants.{Name, Word, Sign}
 use Rattle.luf_lex.specs.declared.token.Word.TheVariants as word
@@ -18,9 +18,9 @@ use Rattle.luf_tree.proofs.SyntaxEquations as eq
 use Rattle.luf_tree.proofs.Locality.{local_prefix, local_targets, local_expr}
 use Rattle.luf_descent.specs.Follow.{NotAt}
 use Rattle.luf_descent.specs.Parts as p
-use Rattle.luf_exact.specs.inner.PartEntries.{suffix_entries, suffixes_entries, expr_entries, exprs_entries, stat_entries}
-use Rattle.luf_exact.specs.inner.PartStops.{StopsParen, StopsHead, StopsPrefix, StopsSuffixes, StopsSimple, StopsVariable, StopsToken, StopsExprs, StopsStat}
-use Rattle.luf_exact.specs.inner.Stops.{Known, behind, Stops}
+use Rattle.luf_descent.specs.PartEntries.{suffix_entries, suffixes_entries, expr_entries, exprs_entries, stat_entries}
+use Rattle.luf_descent.specs.PartStops.{StopsParen, StopsHead, StopsPrefix, StopsSuffixes, StopsSimple, StopsVariable, StopsToken, StopsExprs, StopsStat, StopsAssign, StopsTargets}
+use Rattle.luf_descent.specs.Stops.{Known, Stops}
 use Rattle.luf_descent.specs.declared.error.ParseErr.{ParseErr}
 use Rattle.luf_descent.specs.declared.error.ParseErr.TheVariants as error
 use Rattle.luf_descent.specs.Reads.{token_begins_suffix, begins_suffix}
@@ -32,12 +32,10 @@ use Rattle.luf_descent.proofs.ExprForms.{head_form, prefix_form, prefixed_form}
 use Rattle.luf_descent.proofs.Joining.{Joins}
 use Rattle.luf_descent.proofs.Exactness.{then_rest, token_only}
 use Rattle.luf_descent.proofs.StatForms.{variable_prefix}
-use Rattle.luf_exact.proofs.Completing.{agree_less, token_agrees, carried, carried_token, Room, within_first, within_none, within_as, within_spelled, within_low}
-use Rattle.luf_exact.proofs.Frames.{Seen, stops_after, stops_behind, stops_last, stops_map, stops_wrong, one, two, four}
-use Rattle.luf_exact.proofs.Low.{low_expr, low_exprs}
-use Rattle.luf_exact.proofs.ExprStops.{not_here, nil_at}
-
--- entries of an empty part, and of the token before it
+use Rattle.luf_descent.proofs.Completing.{agree_less, token_agrees, carried, carried_token, Room, within_first, within_none, within_as, within_spelled, within_low}
+use Rattle.luf_descent.proofs.Frames.{Seen, stops_after, stops_behind, stops_last, stops_map, stops_wrong, one, two, four}
+use Rattle.luf_descent.proofs.Low.{low_expr, low_exprs}
+use Rattle.luf_descent.proofs.ExprStops.{not_here, nil_at}
 
 targets_joined : (level : ℕ) (found rest : List Expr) → exprs_entries level (found ++ rest) ≡ exprs_entries level found ++ exprs_entries level rest
 targets_joined level [] rest = refl
@@ -188,9 +186,9 @@ stat_refused {at = at} {found = found} d forward within low known is =
 
 -- ---- the targets of an assignment
 
-pub targets_item : {toks : List Tok} {from place left : ℕ} {first : Expr} {e : ParseErr} (found : List Expr) → from ≤ place → ((l : List Tok) → Room toks l place → Joins (AreTargets l) from place found) → deepest (map expr_levels found) ≤ left
+pub targets_item : {toks : List Tok} {i from place left : ℕ} {first : Expr} {e : ParseErr} (found : List Expr) → i ≤ place → ((l : List Tok) → Room toks l place → Joins (AreTargets l) from place found) → deepest (map expr_levels found) ≤ left
     → ((l : List Tok) → AgreeBefore toks l place → (n : ℕ) (y : List Expr × ℕ) → p.ReadMoreTargets l n from first y → Seen (λ n. p.ReadVariable l n place)) → StopsVariable toks left place e
-    → Stops toks from left false (λ l k x. AreTargets l from k x) exprs_entries (λ l n. p.ReadMoreTargets l n from first) e
+    → Stops toks i left false (λ l k x. AreTargets l from k x) exprs_entries (λ l n. p.ReadMoreTargets l n from first) e
 targets_item found forward joins low form h =
     stops_last forward h
     (λ kind w l k le b. record {
@@ -200,7 +198,7 @@ targets_item found forward joins low form h =
     })
     (λ w l le agree n y d. form l (agree_less agree (omega arith)) n y d)
 
-pub assign_targets : {toks : List Tok} {at left : ℕ} {first : Expr} {e : ParseErr} → Stops toks at left false (λ l k x. AreTargets l at k x) exprs_entries (λ l n. p.ReadMoreTargets l n at first) e → StopsStat toks left at (λ l n. p.ReadAssign l n at first) e
+pub assign_targets : {toks : List Tok} {at left : ℕ} {first : Expr} {e : ParseErr} → StopsTargets toks left at first e → StopsAssign toks left at first e
 assign_targets {at = at} h =
     stops_after (Sign sign.Assign ∷ Word word.Nil ∷ []) refl (omega arith) h
     (λ kind w l m k le b.
@@ -213,8 +211,8 @@ assign_targets {at = at} h =
     })
     (λ w l le agree n y d. record { left = n; part = d.part; is = d.first })
 
-pub assign_sign : {toks : List Tok} {at place left : ℕ} {first : Expr} {targets : List Expr} {e : ParseErr} → AreTargets toks at place targets → at ≤ place → deepest (map expr_levels targets) ≤ left
-    → Known toks place (λ l n. p.ReadMoreTargets l n at first) (targets, place) → StopsToken toks left place (Sign sign.Assign) e → StopsStat toks left at (λ l n. p.ReadAssign l n at first) e
+pub assign_sign : {toks : List Tok} {at place left : ℕ} {first : Expr} {targets : List Expr} {e : ParseErr} → AreTargets toks at place targets → (out-Expr first).to ≤ place → deepest (map expr_levels targets) ≤ left
+    → Known toks place (λ l n. p.ReadMoreTargets l n at first) (targets, place) → StopsToken toks left place (Sign sign.Assign) e → StopsAssign toks left at first e
 assign_sign {at = at} {targets = targets} d forward low known h =
     stops_after (Word word.Nil ∷ []) refl forward h
     (λ kind w l m k le b.
@@ -227,8 +225,8 @@ assign_sign {at = at} {targets = targets} d forward low known h =
     })
     (λ w l le agree n y d. let r = then_rest (known.only l (agree_less agree (omega arith)) n) d in record { left = n; part = r.part; is = r.first })
 
-pub assign_values : {toks : List Tok} {at place from left : ℕ} {first : Expr} {targets : List Expr} {e : ParseErr} → AreTargets toks at place targets → at ≤ place → deepest (map expr_levels targets) ≤ left
-    → Known toks place (λ l n. p.ReadMoreTargets l n at first) (targets, place) → IsToken toks place (Sign sign.Assign) from → StopsExprs toks left from e → StopsStat toks left at (λ l n. p.ReadAssign l n at first) e
+pub assign_values : {toks : List Tok} {at place from left : ℕ} {first : Expr} {targets : List Expr} {e : ParseErr} → AreTargets toks at place targets → (out-Expr first).to ≤ place → deepest (map expr_levels targets) ≤ left
+    → Known toks place (λ l n. p.ReadMoreTargets l n at first) (targets, place) → IsToken toks place (Sign sign.Assign) from → StopsExprs toks left from e → StopsAssign toks left at first e
 assign_values {at = at} {targets = targets} d forward low known u h =
     let o = u.next in
     stops_last (omega arith) h
@@ -243,12 +241,10 @@ assign_values {at = at} {targets = targets} d forward low known u h =
     record { left = n; part = z.part; is = z.first })
 
 -- a statement that begins with a variable is an assignment
-pub stat_assign : {toks : List Tok} {at place left : ℕ} {found : PrefixExpr} {e : ParseErr} → Known toks place (λ l n. p.ReadPrefix l n at) found → found.shape ≡ shape.Variable → at ≤ place → (h : StopsStat toks left at (λ l n. p.ReadAssign l n at found.expr) e)
-    → ((t : ℕ) → e ≡ error.Syntax t → place ≤ t) → StopsStat toks left at (λ l n. p.ReadExprStat l n at) e
-stat_assign {at = at} {found = found} known is forward h late = record {
-  completes = h.completes;
-  nothing = λ t same l agree n y d.
-      let low = late t same in
-      let r = then_rest (known.only l (agree_less agree (omega arith)) n) d in
-      h.nothing t same l agree n y (subst (λ (q : Shape). p.ReadShaped l n at q found.expr y) is r);
-}
+pub stat_assign : {toks : List Tok} {at left : ℕ} {found : PrefixExpr} {e : ParseErr} → Known toks (out-Expr found.expr).to (λ l n. p.ReadPrefix l n at) found → found.shape ≡ shape.Variable → at ≤ (out-Expr found.expr).to
+    → StopsAssign toks left at found.expr e → StopsStat toks left at (λ l n. p.ReadExprStat l n at) e
+stat_assign {at = at} {found = found} known is forward h =
+    stops_last forward h (λ kind w l k le b. b.made)
+    (λ w l le agree n y d.
+    let r = then_rest (known.only l (agree_less agree (omega arith)) n) d in
+    record { left = n; part = y; is = subst (λ (q : Shape). p.ReadShaped l n at q found.expr y) is r })

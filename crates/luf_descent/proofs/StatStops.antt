@@ -13,21 +13,21 @@ use Rattle.luf_tree.specs.Entry.{Entry, entered, entries_of_statement}
 use Rattle.luf_tree.specs.Grammar as g
 use Rattle.luf_tree.specs.Grammar.{At, statement, IsToken, IsExpr, IsBlock}
 use Rattle.luf_tree.proofs.SyntaxEquations as eq
-use Rattle.luf_exact.proofs.EntryOpeners.{block_opener}
+use Rattle.luf_descent.proofs.EntryOpeners.{block_opener}
 use Rattle.luf_tree.proofs.Locality.{local_expr, local_block}
 use Rattle.luf_descent.specs.Follow.{NotAt}
 use Rattle.luf_descent.specs.Parts as p
-use Rattle.luf_exact.specs.inner.PartEntries.{expr_entries, block_entries}
-use Rattle.luf_exact.specs.inner.PartStops.{StopsToken, StopsExpr, StopsBlock, StopsStat, StopsEnded}
-use Rattle.luf_exact.specs.inner.Stops.{Known}
+use Rattle.luf_descent.specs.PartEntries.{expr_entries, block_entries}
+use Rattle.luf_descent.specs.PartStops.{StopsToken, StopsExpr, StopsBlock, StopsStat, StopsEnded}
+use Rattle.luf_descent.specs.Stops.{Known}
 use Rattle.luf_descent.specs.declared.error.ParseErr.{ParseErr}
 use Rattle.luf_descent.specs.declared.error.ParseErr.TheVariants as error
 use Rattle.luf_descent.proofs.Exactness.{then_rest, token_only}
 use Rattle.luf_descent.proofs.Ends.{moved}
-use Rattle.luf_exact.proofs.Completing.{agree_less, token_agrees, carried, carried_token, cons_in, within_first, within_last, within_entered, within_later, within_deep, within_as, within_spelled, within_low}
-use Rattle.luf_exact.proofs.Frames.{stops_after, stops_last, stops_wrong, stops_deep, one, two}
-use Rattle.luf_exact.proofs.Low.{Low, low_expr, low_block}
-use Rattle.luf_exact.proofs.ExprStops.{not_here, token_here, nil_at, empty_block, none_later}
+use Rattle.luf_descent.proofs.Completing.{agree_less, token_agrees, carried, carried_token, cons_in, within_first, within_last, within_entered, within_later, within_deep, within_as, within_spelled, within_low}
+use Rattle.luf_descent.proofs.Frames.{stops_after, stops_last, stops_wrong, stops_deep, one, two}
+use Rattle.luf_descent.proofs.Low.{Low, low_expr, low_block}
+use Rattle.luf_descent.proofs.ExprStops.{not_here, token_here, nil_at, empty_block, none_later}
 
 -- entries of an empty part, and of the token before it
 pub entered_later : {t place : ℕ} {es : List Entry} (level : ℕ) → es ≡ [] → t ≤ place → (e : Entry) → Contains (entered place level es) e → t ≤ e.token
@@ -47,9 +47,8 @@ low_entered {left} at level inner es enter low e c = either (cons_in _ es c) ref
 
 -- ---- a block that its first token enters, and its `end`
 
-pub ended_deep : {toks : List Tok} {opener from left : ℕ} {t : Tok} → IsToken toks opener t from → from ≤ length toks → left ≡ 0 → StopsEnded toks left opener from (error.TooDeep opener)
-ended_deep {opener = opener} {from = from} t within none =
-    let n = t.next in
+pub ended_deep : {toks : List Tok} {opener from left : ℕ} → from ≡ opener + 1 → from ≤ length toks → left ≡ 0 → StopsEnded toks left opener from (error.TooDeep opener)
+ended_deep {opener = opener} {from = from} n within none =
     stops_deep (Word word.End ∷ []) (omega arith) (omega arith) (λ _ _. refl)
     (λ l k agree stand closes. let b = empty_block l from in record {
       part = (b.part, from);

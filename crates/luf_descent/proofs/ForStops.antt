@@ -17,23 +17,22 @@ use Rattle.luf_tree.specs.Grammar as g
 use Rattle.luf_tree.specs.Grammar.{statement, AreNames, IsToken, AreExprs}
 use Rattle.luf_tree.proofs.SyntaxEquations as eq
 use Rattle.luf_tree.proofs.Alone.{cut_agrees}
-use Rattle.luf_exact.proofs.EntryOpeners.{block_opener}
+use Rattle.luf_descent.proofs.EntryOpeners.{block_opener}
 use Rattle.luf_tree.proofs.Locality.{local_names, local_exprs}
-use Rattle.luf_descent.specs.Follow.{NotAt, NotAssigned}
+use Rattle.luf_descent.specs.Follow.{NotAt, IsAssigned, NotAssigned}
 use Rattle.luf_descent.specs.Parts as p
-use Rattle.luf_exact.specs.inner.PartEntries.{exprs_entries, block_entries}
-use Rattle.luf_exact.specs.inner.PartStops.{StopsNames, StopsForStep, StopsToken, StopsExpr, StopsExprs, StopsStat, StopsEnded}
-use Rattle.luf_exact.specs.inner.Stops.{Known, wrong, behind}
+use Rattle.luf_descent.specs.PartEntries.{exprs_entries, block_entries}
+use Rattle.luf_descent.specs.PartStops.{StopsNames, StopsForStep, StopsToken, StopsExpr, StopsExprs, StopsStat, StopsEnded, StopsCount}
+use Rattle.luf_descent.specs.Stops.{Known, wrong}
 use Rattle.luf_descent.specs.declared.error.ParseErr.{ParseErr}
 use Rattle.luf_descent.specs.declared.error.ParseErr.TheVariants as error
 use Rattle.luf_descent.proofs.Exactness.{then_rest, token_only}
 use Rattle.luf_descent.proofs.StatForms.{for_step_form}
-use Rattle.luf_exact.proofs.Completing.{agree_less, token_agrees, carried, carried_token, within_first, within_last, within_as, within_spelled}
-use Rattle.luf_exact.proofs.Frames.{stops_after, stops_last, two, three, four}
-use Rattle.luf_exact.proofs.Low.{low_exprs}
-use Rattle.luf_exact.proofs.ExprStops.{nil_at, empty_block}
--- entries of an empty part, and of the token before it
-use Rattle.luf_exact.proofs.StatStops.{entered_later}
+use Rattle.luf_descent.proofs.Completing.{agree_less, token_agrees, carried, carried_token, within_first, within_last, within_later, within_as, within_spelled}
+use Rattle.luf_descent.proofs.Frames.{stops_after, stops_last, stops_wrong, two, three, four}
+use Rattle.luf_descent.proofs.Low.{low_exprs}
+use Rattle.luf_descent.proofs.ExprStops.{not_here, nil_at, empty_block}
+use Rattle.luf_descent.proofs.StatStops.{entered_later}
 
 -- a list that agrees up to and with a wrong token at which names begin does not begin with a name
 names_wrong : {toks : List Tok} {next left : ℕ} → StopsNames toks left next (error.Syntax next) → NotAt toks next Name
@@ -46,7 +45,7 @@ names_wrong {toks} {next} h here = h.nothing next refl (take (next + 1) toks) (c
     none there = let a = slice_get_within (take (next + 1) toks) (next + 1) (Sign sign.Comma) there in let b = length-take (next + 1) toks in omega arith
 
 -- no name and `=` stand there
-not_assigned : {toks l : List Tok} {next n : ℕ} → NotAssigned toks next → AgreeBefore toks l n → next + 1 < n → NotAssigned l next
+pub not_assigned : {toks l : List Tok} {next n : ℕ} → NotAssigned toks next → AgreeBefore toks l n → next + 1 < n → NotAssigned l next
 not_assigned {toks} {l} {next} none agree low from a =
     let x = a.name.next in
     none from (record {
@@ -54,6 +53,9 @@ not_assigned {toks} {l} {next} none agree low from a =
       name = record { there = sym (agree.same next (omega arith)) ∙ a.name.there; next = a.name.next };
       sign = record { there = sym (agree.same a.after (omega arith)) ∙ a.sign.there; next = a.sign.next };
     })
+
+pub do_no_paren : {l : List Tok} {i j : ℕ} → IsToken l i (Word word.Do) j → NotAt l i (Sign sign.LeftParen)
+do_no_paren t there = let a = t.there in absurd cc
 
 -- what completes the names of a `for`
 names_complete : {toks : List Tok} {at next left : ℕ} {e : ParseErr} → IsToken toks at (Word word.For) next → StopsNames toks left next e → StopsStat {B = Stat} toks left at (λ l n y. ⊥) e
@@ -160,6 +162,41 @@ for_ended {at = at} {names = names} {es = es} t none d forward known u values fu
     let r2 = then_rest (known2.only l (agree_less agree (omega arith)) n) z in
     let z2 = then_rest (token_only (token_agrees agree (omega arith) v)) r2 in
     record { left = n; part = z2.part; is = z2.first })
+
+-- where the `do` is missing
+pub for_do : {toks : List Tok} {at next close from place left : ℕ} {names : List ℕ} {es : List Expr} → IsToken toks at (Word word.For) next → NotAssigned toks next → AreNames toks next close names → next < close
+    → Known toks close (λ l n. p.ReadNames l next) (names, close) → IsToken toks close (Word word.In) from → AreExprs toks from place es → from ≤ place → deepest (map expr_levels es) ≤ left → Known toks place (λ l n. p.ReadExprs l n from) (es, place)
+    → place ≤ length toks → NotAt toks place (Word word.Do) → StopsStat toks left at (λ l n. p.ReadFor l n at next) (error.Syntax place)
+for_do {at = at} {close = close} {place = place} {names = names} {es = es} t none d forward known u values further low known2 within other =
+    let n = t.next in
+    let o = u.next in
+    stops_wrong (Word word.Do ∷ Word word.End ∷ []) (omega arith) within (λ _ _. refl)
+    (λ l k agree stand closes.
+    let s = two stand in
+    let body = empty_block l s.middle in
+    let values = (local_exprs values).at l agree (λ _ there. do_no_paren s.first there) in
+    let d = (local_names d).at l (agree_less agree (omega arith)) (λ closed there. closed (sym (agree.same close (omega arith)) ∙ there)) in
+    record {
+      part = statement at k (stat.ForIn names es body.part);
+      derived = g.for_in_stat (token_agrees agree (omega arith) t) d (token_agrees agree (omega arith) u) values s.first body.derived s.second;
+      levels = λ level. within_spelled (entries_of_statement level) (eq.for_in_syntax at k names es body.part)
+          (within_spelled (λ q. exprs_entries level es ++ entered q level (block_entries (level + 1) body.part)) (block_opener s.first body.derived)
+          (within_first (exprs_entries level es) (low_exprs level es low) (within_later (entered place level (block_entries (level + 1) body.part)) (entered_later level (body.none (level + 1)) (omega arith)))));
+    })
+    (λ l agree n y d.
+    let r = then_rest (known.only l (agree_less agree (omega arith)) n) (d.names (not_assigned none agree (omega arith))) in
+    let z = then_rest (token_only (token_agrees agree (omega arith) u)) r in
+    let r2 = then_rest (known2.only l agree n) z in
+    not_here place agree other r2.first.there)
+
+-- a `for` with a count
+pub for_count : {toks : List Tok} {at next from left : ℕ} {e : ParseErr} → IsToken toks at (Word word.For) next → IsAssigned toks next from → StopsCount toks left at next from e → StopsStat toks left at (λ l n. p.ReadFor l n at next) e
+for_count {from = from} t a h =
+    let n = t.next in
+    let m = a.name.next in
+    let o = a.sign.next in
+    stops_last (omega arith) h (λ kind w l k le b. b.made)
+    (λ w l le agree n y d. record { left = n; part = y; is = d.count from (record { after = a.after; name = token_agrees agree (omega arith) a.name; sign = token_agrees agree (omega arith) a.sign }) })
 
 -- the step of a `for` with a count
 pub step_value : {toks : List Tok} {at from left : ℕ} {e : ParseErr} → IsToken toks at (Sign sign.Comma) from → StopsExpr toks 1 left from e → StopsForStep toks left at e

@@ -1,13 +1,13 @@
 -- A part that stops within a whole: the tokens that complete the part, and then those that complete the whole.
-use Rattle.std.proofs.Common.{◌≡◌, ℕ, ◌+◌, ◌<◌, ◌≤◌, Bool, false, List, [], ◌∷◌, ◌++◌, length, refl, sym, subst, arith}
+use Rattle.std.proofs.Common.{◌≡◌, ℕ, ◌+◌, ◌<◌, ◌≤◌, Bool, true, false, List, [], ◌∷◌, ◌++◌, length, refl, sym, subst, arith}
 use Rattle.luf_lex.specs.declared.token.Tok.{Tok}
 use Rattle.luf_tree.specs.Agree.{AgreeBefore}
 use Rattle.luf_tree.specs.Entry.{Entry}
 use Rattle.luf_tree.specs.Grammar.{IsToken, NoParenFollows}
-use Rattle.luf_exact.specs.inner.Stops.{Kind, wrong, deep, Says, behind, Stand, stand_none, stand_more, opens, Made, Completes, Stops}
+use Rattle.luf_descent.specs.Stops.{Kind, wrong, deep, Says, behind, Stand, stand_none, stand_more, opens, Made, Completes, Stops}
 use Rattle.luf_descent.specs.declared.error.ParseErr.{ParseErr}
 use Rattle.luf_descent.specs.declared.error.ParseErr.TheVariants as error
-use Rattle.luf_exact.proofs.Completing.{agree_less, stand_forward, stand_split, stand_closes, opens_append, Room, room_for, behind_least}
+use Rattle.luf_descent.proofs.Completing.{agree_less, stand_forward, stand_split, stand_closes, opens_append, Room, room_for, behind_least}
 
 -- of something it is said
 pub record Seen {B : Type 0} (P : ℕ → B → Type 0) : Type 0 where
@@ -71,6 +71,31 @@ stops_behind {A} {B} {C} {F} {toks} {i} {j} {left} {inner} {paren} {round} {D} {
           more = c.more;
           starts = λ _ same. absurd (omega arith);
           made = λ l k agree stand closes. build kind t l k c.forward (agree_less agree (omega arith)) (c.made l k agree stand closes);
+        }
+
+-- a part that stops and may begin with a `(`, in a whole that may begin with one
+pub stops_beside : {A B C F : Type 0} {toks : List Tok} {i j left inner : ℕ} {round : Bool} {D : List Tok → ℕ → A → Type 0} {E : ℕ → A → List Entry} {P : List Tok → ℕ → B → Type 0} {e : ParseErr}
+    {D2 : List Tok → ℕ → C → Type 0} {E2 : ℕ → C → List Entry} {P2 : List Tok → ℕ → F → Type 0} → i ≤ j → Stops toks j inner round D E P e
+    → ((kind : Kind) (t : ℕ) (l : List Tok) (k : ℕ) → j ≤ behind kind t → AgreeBefore toks l j → Made kind t inner (D l k) E → Made kind t left (D2 l k) E2)
+    → ((t : ℕ) (l : List Tok) → j ≤ t → AgreeBefore toks l (t + 1) → (n : ℕ) (y : F) → P2 l n y → Seen (P l))
+    → Stops toks i left true D2 E2 P2 e
+stops_beside {A} {B} {C} {F} {toks} {i} {j} {left} {inner} {round} {D} {E} {P} {e} {D2} {E2} {P2} low h build form = record {
+  completes = λ kind t says. grow kind t (h.completes kind t says);
+  nothing = λ t is l agree n y p. let f = form t l (h.completes wrong t is).forward agree n y p in h.nothing t is l agree f.left f.part f.is;
+}
+  where
+    round_not : true ≡ false → ⊥
+    round_not e = cc
+
+    grow : (kind : Kind) (t : ℕ) → Completes kind toks j inner t round D E → Completes kind toks i left t true D2 E2
+    grow kind t c =
+        let fw = c.forward in
+        record {
+          forward = omega arith;
+          within = c.within;
+          more = c.more;
+          starts = λ is same. absurd (round_not is);
+          made = λ l k agree stand closes. build kind t l k c.forward (agree_less agree c.forward) (c.made l k agree stand closes);
         }
 
 -- the same part, of which something else is said

@@ -1,5 +1,5 @@
 -- Where functions and `local` stop as statements, and what completes them.
-use Rattle.std.proofs.Common.{◌≡◌, ℕ, ◌+◌, ◌≤◌, Option, None, List, [], ◌∷◌, length, refl, sym, ap, arith}
+use Rattle.std.proofs.Common.{◌≡◌, ℕ, ◌+◌, ◌≤◌, inl, inr, Option, Some, None, List, [], ◌∷◌, ◌++◌, length, refl, sym, ap, subst, arith}
 use Rattle.luf_lex.specs.declared.token.Tok.{Tok}
 use Rattle.luf_lex.specs.declared.token.Tok.TheVariants.{Name, Word, Sign}
 use Rattle.luf_lex.specs.declared.token.Word.TheVariants as word
@@ -10,30 +10,31 @@ use Rattle.luf_tree.specs.declared.tree.Declared.{Declared}
 use Rattle.luf_tree.specs.Agree.{AgreeBefore}
 use Rattle.luf_tree.specs.Entry.{entered, entries_of_statement}
 use Rattle.luf_tree.specs.Grammar as g
-use Rattle.luf_tree.specs.Grammar.{statement, AreDeclared, IsPath, IsMethod, IsToken}
+use Rattle.luf_tree.specs.Grammar.{At, statement, AreDeclared, IsPath, IsMethod, IsToken}
 use Rattle.luf_tree.proofs.SyntaxEquations as eq
 use Rattle.luf_tree.proofs.Locality.{local_path, local_declared}
 use Rattle.luf_descent.specs.Follow.{NotAt}
 use Rattle.luf_descent.specs.Parts as p
-use Rattle.luf_exact.specs.inner.PartEntries.{body_entries}
-use Rattle.luf_exact.specs.inner.PartStops.{StopsFuncBody, StopsDeclared, StopsExprs, StopsStat}
-use Rattle.luf_exact.specs.inner.Stops.{Known, behind}
+use Rattle.luf_descent.specs.PartEntries.{body_entries}
+use Rattle.luf_descent.specs.PartStops.{StopsFuncBody, StopsDeclared, StopsExprs, StopsStat, StopsPath, StopsMethod}
+use Rattle.luf_descent.specs.Stops.{Known, Missing, NameMissing}
 use Rattle.luf_descent.specs.declared.error.ParseErr.{ParseErr}
 use Rattle.luf_descent.specs.declared.error.ParseErr.TheVariants as error
-use Rattle.luf_descent.proofs.Exactness.{then_rest, token_only}
-use Rattle.luf_exact.proofs.Completing.{agree_less, token_agrees, carried, carried_token, within_entered, within_none, within_deep, within_as, within_spelled}
-use Rattle.luf_exact.proofs.Frames.{stops_behind, stops_last, stops_wrong, stops_deep, four}
-use Rattle.luf_exact.proofs.ExprStops.{not_here, token_here, empty_body, none_later}
-
--- entries of an empty part, and of the token before it
+use Rattle.luf_descent.proofs.Exactness.{then_rest, token_only, Ahead}
+use Rattle.luf_descent.proofs.Joining.{Joins}
+use Rattle.luf_descent.proofs.NameForms.{same_end, path_form}
+use Rattle.luf_descent.proofs.Knowing.{memory_stops, here_stops}
+use Rattle.luf_descent.proofs.Completing.{agree_less, token_agrees, carried, carried_token, within_entered, within_none, within_deep, within_as, within_spelled}
+use Rattle.luf_descent.proofs.Frames.{stops_behind, stops_last, stops_wrong, stops_deep, four}
+use Rattle.luf_descent.proofs.ExprStops.{not_here, token_here, empty_body, none_later}
 
 -- what is derived of names has no part in what stands behind it
 
-path_agrees : {toks l : List Tok} {i j : ℕ} {path : List ℕ} → IsPath toks i j path → AgreeBefore toks l j → IsPath l i j path
+pub path_agrees : {toks l : List Tok} {i j : ℕ} {path : List ℕ} → IsPath toks i j path → AgreeBefore toks l j → IsPath l i j path
 path_agrees (g.path_end t) agree = let a = t.next in g.path_end (token_agrees agree (omega arith) t)
 path_agrees (g.path_more t u d) agree = let a = t.next in let b = u.next in let c = (local_path d).forward in g.path_more (token_agrees agree (omega arith) t) (token_agrees agree (omega arith) u) (path_agrees d agree)
 
-method_agrees : {toks l : List Tok} {i j : ℕ} {method : Option ℕ} → IsMethod toks i j method → AgreeBefore toks l j → IsMethod l i j method
+pub method_agrees : {toks l : List Tok} {i j : ℕ} {method : Option ℕ} → IsMethod toks i j method → AgreeBefore toks l j → IsMethod l i j method
 method_agrees g.no_method agree = g.no_method
 method_agrees (g.a_method t n) agree = let a = t.next in let b = n.next in g.a_method (token_agrees agree (omega arith) t) (token_agrees agree (omega arith) n)
 
@@ -60,6 +61,48 @@ function_stat_name {at = at} inner t enter forward within begun nothing =
       levels = λ level. within_spelled (entries_of_statement level) (eq.function_stat_syntax at k b.0 b.1 x.part) (within_entered at enter (within_as (x.none (level + 1)) within_none));
     })
     nothing
+
+-- the next name of a path, and the name of a method
+pub path_item : {toks : List Tok} {from at : ℕ} {e : ParseErr} (found : List ℕ) → from ≤ at → at ≤ length toks → ((l : List Tok) → AgreeBefore toks l at → Joins (IsPath l) from at found)
+    → ((l : List Tok) → AgreeBefore toks l (at + 1) → Ahead (p.ReadPath l from) found (p.ReadPath l at)) → Missing toks at Name e → NameMissing toks from (λ l k x. IsPath l from k x) (λ l. p.ReadPath l from) e
+path_item {at = at} found forward within joins ahead h = record {
+  place = at;
+  is = h.is;
+  forward = forward;
+  within = within;
+  begun = λ l k agree name. (found ++ at ∷ [], joins l agree k (at ∷ []) (g.path_end name));
+  nothing = λ l agree y d. let a = ahead l (agree_less agree (omega arith)) y d in let f = path_form a.0 a.1 in not_here at agree h.other f.first.there;
+}
+
+method_named : {l : List Tok} {i name j : ℕ} {method : Option ℕ} → IsToken l i (Sign sign.Colon) name → IsMethod l i j method → At l j (Sign sign.LeftParen) → At l name Name
+method_named {name = name} t g.no_method paren = let a = t.there in absurd cc
+method_named {l} {name = name} t (g.a_method u n) paren = subst (λ (q : ℕ). At l q Name) (same_end u t) n.there
+
+pub method_item : {toks : List Tok} {at name : ℕ} {e : ParseErr} → IsToken toks at (Sign sign.Colon) name → name ≤ length toks → Missing toks name Name e → NameMissing toks at (λ l k x. IsMethod l at k x) (λ l. p.ReadMethod l at) e
+method_item {name = name} t within h =
+    let n = t.next in
+    record {
+      place = name;
+      is = h.is;
+      forward = omega arith;
+      within = within;
+      begun = λ l k agree u. (Some name, g.a_method (token_agrees agree (omega arith) t) u);
+      nothing = λ l agree y d. not_here name agree h.other (method_named (token_agrees agree (omega arith) t) d.is d.ends);
+    }
+
+pub function_stat_path : {toks : List Tok} {at next left : ℕ} {e : ParseErr} (inner : ℕ) → IsToken toks at (Word word.Function) next → left ≡ inner + 1 → StopsPath toks next e → StopsStat toks left at (λ l n. p.ReadFunctionStat l n at next) e
+function_stat_path inner t enter (inl none) = memory_stops none
+function_stat_path inner t enter (inr h) =
+    here_stops h.is (function_stat_name inner t enter h.forward h.within (λ l k agree name. let b = h.begun l k agree name in (b.0, None, k, b.1, g.no_method)) (λ l agree n y d. h.nothing l agree d.rest.part d.rest.first))
+
+pub function_stat_method : {toks : List Tok} {at next dot left : ℕ} {path : List ℕ} {e : ParseErr} (inner : ℕ) → IsToken toks at (Word word.Function) next → left ≡ inner + 1 → IsPath toks next dot path → next ≤ dot
+    → Known toks dot (λ l n. p.ReadPath l next) (path, dot) → StopsMethod toks dot e → StopsStat toks left at (λ l n. p.ReadFunctionStat l n at next) e
+function_stat_method inner t enter d forward known (inl none) = memory_stops none
+function_stat_method {dot = dot} {path = path} inner t enter d forward known (inr h) =
+    let further = h.forward in
+    here_stops h.is (function_stat_name inner t enter (omega arith) h.within
+    (λ l k agree name. let b = h.begun l k agree name in (path, b.0, dot, path_agrees d (agree_less agree further), b.1))
+    (λ l agree n y d. let r = then_rest (known.only l (agree_less agree (omega arith)) n) d.rest in h.nothing l agree r.part r.first))
 
 pub function_stat_body : {toks : List Tok} {at next dot inside left inner : ℕ} {path : List ℕ} {method : Option ℕ} {e : ParseErr} → IsToken toks at (Word word.Function) next → left ≡ inner + 1 → IsPath toks next dot path → next ≤ dot
     → Known toks dot (λ l n. p.ReadPath l next) (path, dot) → IsMethod toks dot inside method → dot ≤ inside → Known toks inside (λ l n. p.ReadMethod l dot) (method, inside) → StopsFuncBody toks inner inside e

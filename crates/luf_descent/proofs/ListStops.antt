@@ -1,5 +1,5 @@
 -- Where lists of expressions, fields, suffixes and arguments stop, and what completes them.
-use Rattle.std.proofs.Common.{◌≡◌, ℕ, ◌+◌, ◌<◌, ◌≤◌, Bool, true, false, List, [], ◌∷◌, ◌++◌, length, map, refl, sym, ap, ◌∙◌, subst, arith, append-nil, append_assoc}
+use Rattle.std.proofs.Common.{◌≡◌, ℕ, ◌+◌, ◌≤◌, Bool, true, false, List, [], ◌∷◌, ◌++◌, length, map, refl, sym, ap, ◌∙◌, subst, arith, append-nil, append_assoc}
 use Rattle.luf_lex.specs.declared.token.Tok.{Tok}
 use Rattle.luf_lex.specs.declared.token.Tok.TheVariants.{Name, Word, Sign}
 use Rattle.luf_lex.specs.declared.token.Word.TheVariants as word
@@ -15,23 +15,23 @@ use Rattle.luf_tree.specs.Entry.{entered, entries_of_field, entries_of_suffix, e
 use Rattle.luf_tree.specs.Grammar as g
 use Rattle.luf_tree.specs.Grammar.{IsToken, IsExpr, AreSuffixes, AreExprs, AreFields}
 use Rattle.luf_tree.proofs.SyntaxEquations as eq
-use Rattle.luf_exact.proofs.EntryOpeners.{expr_opener}
+use Rattle.luf_descent.proofs.EntryOpeners.{expr_opener}
 use Rattle.luf_tree.proofs.Locality.{local_exprs, local_expr}
 use Rattle.luf_descent.specs.Follow.{NotAt}
 use Rattle.luf_descent.specs.Parts as p
-use Rattle.luf_exact.specs.inner.PartEntries.{expr_entries, exprs_entries, fields_entries, field_entries, suffixes_entries, suffix_entries}
-use Rattle.luf_exact.specs.inner.PartStops.{StopsToken, StopsExpr, StopsFields, StopsField, StopsExprs, StopsSuffixes, StopsSuffix, StopsArgs}
-use Rattle.luf_exact.specs.inner.Stops.{Known}
+use Rattle.luf_descent.specs.PartEntries.{expr_entries, exprs_entries, fields_entries, field_entries, suffixes_entries, suffix_entries}
+use Rattle.luf_descent.specs.PartStops.{StopsToken, StopsExpr, StopsFields, StopsField, StopsExprs, StopsSuffixes, StopsSuffix, StopsArgs}
+use Rattle.luf_descent.specs.Stops.{Known}
 use Rattle.luf_descent.specs.declared.error.ParseErr.{ParseErr}
 use Rattle.luf_descent.specs.declared.error.ParseErr.TheVariants as error
 use Rattle.luf_descent.proofs.Joining.{Joins}
 use Rattle.luf_descent.proofs.Exactness.{then_rest, token_only, Ahead}
 use Rattle.luf_descent.proofs.ExprForms.{exprs_form, fields_form, named_form, dot_form, index_form, method_form, call_form, args_list, args_lone, SuffixesRead, suffixes_form}
-use Rattle.luf_exact.proofs.Completing.{agree_less, token_agrees, carried, carried_token, Room, within_first, within_entered, within_later, within_deep, within_as, within_spelled, within_low}
-use Rattle.luf_exact.proofs.Frames.{stops_after, stops_behind, stops_last, stops_map, stops_form, stops_wrong, stops_deep, one, two, three, four}
-use Rattle.luf_exact.proofs.Low.{low_expr, low_exprs, low_fields, low_suffixes}
-use Rattle.luf_exact.proofs.ExprStops.{not_here, token_here, nil_at, none_later}
-use Rattle.luf_exact.proofs.BracketStops.{one_later}
+use Rattle.luf_descent.proofs.Completing.{agree_less, token_agrees, carried, carried_token, Room, within_first, within_entered, within_later, within_deep, within_as, within_spelled, within_low}
+use Rattle.luf_descent.proofs.Frames.{stops_after, stops_behind, stops_beside, stops_last, stops_map, stops_form, stops_wrong, stops_deep, one, two, three, four}
+use Rattle.luf_descent.proofs.Low.{low_expr, low_exprs, low_fields, low_suffixes}
+use Rattle.luf_descent.proofs.ExprStops.{not_here, token_here, nil_at, none_later}
+use Rattle.luf_descent.proofs.BracketStops.{one_later}
 
 -- ---- a list that is read part by part: what was read stands before what is left, in each list that agrees so far
 
@@ -48,7 +48,7 @@ suffixes_joined level [] rest = refl
 suffixes_joined level (x ∷ found) rest = ap (λ es. suffix_entries level x ++ es) (suffixes_joined level found rest) ∙ sym (append_assoc (suffix_entries level x) (suffixes_entries level found) (suffixes_entries level rest))
 
 pub exprs_item : {toks : List Tok} {from at left : ℕ} {e : ParseErr} (found : List Expr) → from ≤ at → ((l : List Tok) → Room toks l at → Joins (AreExprs l) from at found) → deepest (map expr_levels found) ≤ left
-    → ((l : List Tok) → AgreeBefore toks l at → (n : ℕ) → Ahead (p.ReadExprs l n from) found (p.ReadExprs l n at)) → StopsExpr toks 1 left at e → StopsExprs toks left from e
+    → ((l : List Tok) → AgreeBefore toks l (at + 1) → (n : ℕ) → Ahead (p.ReadExprs l n from) found (p.ReadExprs l n at)) → StopsExpr toks 1 left at e → StopsExprs toks left from e
 exprs_item found forward joins low ahead h =
     stops_last forward h
     (λ kind w l k le b. record {
@@ -59,7 +59,7 @@ exprs_item found forward joins low ahead h =
     (λ w l le agree n y d. let a = ahead l (agree_less agree (omega arith)) n y d in let f = exprs_form a.0 a.1 in record { left = n; part = f.part; is = f.first })
 
 pub fields_item : {toks : List Tok} {from at left : ℕ} {e : ParseErr} (found : List Field) → from ≤ at → ((l : List Tok) → Room toks l at → Joins (AreFields l) from at found) → deepest (map field_levels found) ≤ left
-    → ((l : List Tok) → AgreeBefore toks l at → (n : ℕ) → Ahead (p.ReadFields l n from) found (p.ReadFields l n at)) → NotAt toks at (Sign sign.RightBrace)
+    → ((l : List Tok) → AgreeBefore toks l (at + 1) → (n : ℕ) → Ahead (p.ReadFields l n from) found (p.ReadFields l n at)) → NotAt toks at (Sign sign.RightBrace)
     → StopsField toks left at (λ l n. p.ReadField l n at) e → StopsFields toks left from e
 fields_item {at = at} found forward joins low ahead other h =
     stops_last forward h
@@ -120,10 +120,10 @@ keyed_key {at = at} t enter h =
 
 -- ---- suffixes and arguments
 
-pub suffixes_item : {toks : List Tok} {from at left : ℕ} {e : ParseErr} (found : List Suffix) → from < at → ((l : List Tok) (calls : Bool) → AgreeBefore toks l at → Joins (AreSuffixes l calls) from at found) → deepest (map suffix_levels found) ≤ left
-    → ((l : List Tok) → AgreeBefore toks l at → (n : ℕ) → Ahead (SuffixesRead l n from) found (SuffixesRead l n at)) → StopsSuffix toks left at e → StopsSuffixes toks left from e
+pub suffixes_item : {toks : List Tok} {from at left : ℕ} {e : ParseErr} (found : List Suffix) → from ≤ at → ((l : List Tok) (calls : Bool) → AgreeBefore toks l at → Joins (AreSuffixes l calls) from at found) → deepest (map suffix_levels found) ≤ left
+    → ((l : List Tok) → AgreeBefore toks l (at + 1) → (n : ℕ) → Ahead (SuffixesRead l n from) found (SuffixesRead l n at)) → StopsSuffix toks left at e → StopsSuffixes toks left from e
 suffixes_item found forward joins low ahead h =
-    stops_behind forward h
+    stops_beside forward h
     (λ kind w l k le agree x. record {
       part = (x.part.0, found ++ x.part.1 ∷ []);
       derived = joins l x.part.0 agree k (x.part.1 ∷ []) (g.one_suffix x.derived);

@@ -13,9 +13,9 @@ use Rattle.luf_tree.specs.SyntaxOf.{syntax_of_expr, syntax_of_block, syntax_of_s
 use Rattle.luf_tree.specs.Entry.{Entry}
 use Rattle.luf_tree.specs.Level.{deepest, if_there, block_if_there, expr_levels, field_levels, suffix_levels, step_levels, stat_levels, arm_levels, block_levels}
 use Rattle.luf_tree.proofs.LevelEquations as lv
-use Rattle.luf_exact.proofs.EntryLevels.{reach_expression, reach_expressions, reach_operations, reach_suffixes, reach_fields, reach_statements, reach_arms, reach_block, reach_optional_expression, reach_optional_block, reach_statement, reach_field}
-use Rattle.luf_exact.specs.inner.PartEntries.{expr_entries, exprs_entries, steps_entries, suffixes_entries, fields_entries, stats_entries, arms_entries, block_entries, step_entries, else_entries, stat_entries, field_entries}
-use Rattle.luf_exact.proofs.Completing.{low_levels}
+use Rattle.luf_descent.proofs.EntryLevels.{reach_expression, reach_expressions, reach_operations, reach_suffixes, reach_fields, reach_statements, reach_arms, reach_block, reach_optional_expression, reach_optional_block}
+use Rattle.luf_descent.specs.PartEntries.{expr_entries, exprs_entries, steps_entries, suffixes_entries, fields_entries, stats_entries, arms_entries, block_entries, step_entries, else_entries}
+use Rattle.luf_descent.proofs.Completing.{low_levels}
 
 -- each of these is of a level that is left
 abbrev pub Low : ℕ → ℕ → List Entry → Type 0
@@ -50,9 +50,3 @@ low_step level step le = low_levels (reach_optional_expression level (optional_e
 
 pub low_else : {left : ℕ} (level : ℕ) (last : Option Block) → block_if_there (option_map block_levels last) ≤ left → Low level left (else_entries level last)
 low_else level last le = low_levels (reach_optional_block level (optional_block_of (option_map syntax_of_block last))) (omega (arith, lv.else_if_there last))
-
-pub low_stat : {left : ℕ} (level : ℕ) (s : Stat) → stat_levels s ≤ left → Low level left (stat_entries level s)
-low_stat level s le = low_levels (reach_statement level (syntax_of_stat s)) le
-
-pub low_field : {left : ℕ} (level : ℕ) (f : Field) → field_levels f ≤ left → Low level left (field_entries level f)
-low_field level f le = low_levels (reach_field level (syntax_of_field f)) le

@@ -1,5 +1,5 @@
 -- Where expressions and blocks begin, and the token before them, which opens them.
-use Rattle.std.proofs.Common.{◌≡◌, ℕ, ◌-◌, List, ap, arith, ◌∙◌}
+use Rattle.std.proofs.Common.{◌≡◌, ℕ, List, ap, arith, ◌∙◌}
 use Rattle.luf_lex.specs.declared.token.Tok.{Tok}
 use Rattle.luf_tree.specs.declared.tree.Block.{Block}
 use Rattle.luf_tree.specs.declared.tree.Expr.{Expr}

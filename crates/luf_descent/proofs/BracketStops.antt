@@ -5,29 +5,30 @@ use Rattle.luf_lex.specs.declared.token.Tok.{Tok}
 use Rattle.luf_lex.specs.declared.token.Tok.TheVariants.{Name, Word, Sign}
 use Rattle.luf_lex.specs.declared.token.Word.TheVariants as word
 use Rattle.luf_lex.specs.declared.token.Sign.TheVariants as sign
+use Rattle.luf_tree.specs.declared.tree.Block.{Block, out-Block}
 use Rattle.luf_tree.specs.declared.tree.Expr.{Expr, out-Expr}
 use Rattle.luf_tree.specs.declared.tree.ExprKind.TheVariants as expr
 use Rattle.luf_tree.specs.declared.tree.Field.{Field}
-use Rattle.luf_tree.specs.Level.{deepest, expr_levels, field_levels}
+use Rattle.luf_tree.specs.Level.{deepest, expr_levels, field_levels, block_levels}
 use Rattle.luf_tree.specs.Entry.{Entry, entered, entries_of_expression, entries_of_function_body}
 use Rattle.luf_tree.specs.Grammar as g
-use Rattle.luf_tree.specs.Grammar.{expression, IsToken, IsExpr, AreFields, AreParams}
+use Rattle.luf_tree.specs.Grammar.{expression, IsToken, IsExpr, IsBlock, AreFields, AreParams}
 use Rattle.luf_tree.proofs.SyntaxEquations as eq
-use Rattle.luf_tree.proofs.Locality.{local_params, local_expr, local_fields}
+use Rattle.luf_tree.proofs.Locality.{local_params, local_expr, local_fields, local_block}
 use Rattle.luf_descent.specs.Follow.{NotAt}
 use Rattle.luf_descent.specs.Parts as p
-use Rattle.luf_exact.specs.inner.PartEntries.{expr_entries, fields_entries}
-use Rattle.luf_exact.specs.inner.PartStops.{StopsToken, StopsExpr, StopsFuncBody, StopsTable, StopsFields, StopsHead, StopsParen, StopsBlock, StopsParams}
-use Rattle.luf_exact.specs.inner.Stops.{Known}
+use Rattle.luf_descent.specs.PartEntries.{expr_entries, fields_entries, block_entries}
+use Rattle.luf_descent.specs.PartStops.{StopsToken, StopsExpr, StopsFuncBody, StopsTable, StopsFields, StopsHead, StopsParen, StopsBlock, StopsParams}
+use Rattle.luf_descent.specs.Stops.{Known}
 use Rattle.luf_descent.specs.declared.error.ParseErr.{ParseErr}
 use Rattle.luf_descent.specs.declared.error.ParseErr.TheVariants as error
 use Rattle.luf_descent.proofs.Exactness.{then_rest, token_only}
 use Rattle.luf_descent.proofs.ExprForms.{table_form, paren_form, head_form}
 use Rattle.luf_descent.proofs.StatForms.{func_body_form}
-use Rattle.luf_exact.proofs.Completing.{agree_less, token_agrees, carried, carried_token, none_in, cons_in, within_entered, within_none, within_later, within_deep, within_as, within_spelled, within_any, within_low}
-use Rattle.luf_exact.proofs.Frames.{stops_after, stops_last, stops_wrong, stops_deep, one, two, three}
-use Rattle.luf_exact.proofs.Low.{low_expr, low_fields}
-use Rattle.luf_exact.proofs.ExprStops.{not_here, token_here, nil_at, empty_block, empty_body, none_later}
+use Rattle.luf_descent.proofs.Completing.{agree_less, token_agrees, carried, carried_token, none_in, cons_in, within_entered, within_none, within_later, within_deep, within_as, within_spelled, within_any, within_low}
+use Rattle.luf_descent.proofs.Frames.{stops_after, stops_last, stops_wrong, stops_deep, stops_open, one, two, three}
+use Rattle.luf_descent.proofs.Low.{low_expr, low_fields, low_block}
+use Rattle.luf_descent.proofs.ExprStops.{not_here, token_here, nil_at, empty_block, empty_body, none_later}
 
 -- ---- bodies of functions
 
@@ -73,6 +74,22 @@ body_block {at = at} {close = close} {ps = ps} {vararg = vararg} t d forward kno
     })
     (λ w l le agree n y d. let f = then_rest (token_only (token_agrees agree (omega arith) t)) (func_body_form y d) in let r = then_rest (known.only l (agree_less agree (omega arith)) n) f in
     let z = then_rest (token_only (token_agrees agree (omega arith) u)) r in record { left = n; part = z.part; is = z.first })
+
+pub body_end : {toks : List Tok} {at inside close from place left : ℕ} {ps : List ℕ} {vararg : Bool} {body : Block} {e : ParseErr} → IsToken toks at (Sign sign.LeftParen) inside → AreParams toks inside close ps vararg → inside ≤ close
+    → Known toks close (λ l n. p.ReadParams l inside) (ps, vararg, close) → IsToken toks close (Sign sign.RightParen) from → IsBlock toks from place body → from ≤ place → (out-Block body).to ≡ place → block_levels body ≤ left
+    → Known toks place (λ l n. p.ReadBlock l n from) body → StopsToken toks left place (Word word.End) e → StopsFuncBody toks left at e
+body_end {at = at} {close = close} {ps = ps} {vararg = vararg} {body = body} t d forward known u block further to low known2 h =
+    let n = t.next in
+    let o = u.next in
+    stops_open (stops_last (omega arith) h
+    (λ kind w l k le b. record {
+      part = _;
+      derived = g.func_body (carried_token b.room t (omega arith)) (carried b.room (local_params d) (omega arith)) (carried_token b.room u (omega arith)) (carried b.room (local_block block) (omega arith)) b.made.derived;
+      levels = λ level. within_spelled (entries_of_function_body level) (eq.body_of_syntax at k ps vararg body) (within_low (block_entries level body) (low_block level body low) (b.made.levels level));
+    })
+    (λ w l le agree n y d. let f = then_rest (token_only (token_agrees agree (omega arith) t)) (func_body_form y d) in let r = then_rest (known.only l (agree_less agree (omega arith)) n) f in
+    let z = then_rest (token_only (token_agrees agree (omega arith) u)) r in
+    let q = then_rest (known2.only l (agree_less agree (omega arith)) n) z in record { left = n; part = q.part; is = subst (λ (m : ℕ). IsToken l m (Word word.End) q.part) to q.first }))
 
 -- ---- tables
 

@@ -15,32 +15,31 @@ use Rattle.luf_tree.specs.Entry.{entered, entries_of_statement, entries_of_arm}
 use Rattle.luf_tree.specs.Grammar as g
 use Rattle.luf_tree.specs.Grammar.{At, statement, IsToken, IsExpr, IsBlock, AreArms, IsElse}
 use Rattle.luf_tree.proofs.SyntaxEquations as eq
-use Rattle.luf_exact.proofs.EntryOpeners.{block_opener}
+use Rattle.luf_descent.proofs.EntryOpeners.{block_opener}
 use Rattle.luf_tree.proofs.Locality.{local_expr, local_arms, local_else}
 use Rattle.luf_descent.specs.Follow.{NotAt}
 use Rattle.luf_descent.specs.Parts as p
-use Rattle.luf_exact.specs.inner.PartEntries.{expr_entries, block_entries, arm_entries, arms_entries, else_entries}
-use Rattle.luf_exact.specs.inner.PartStops.{StopsToken, StopsExpr, StopsBlock, StopsStat, StopsArm, StopsArms, StopsElse}
-use Rattle.luf_exact.specs.inner.Stops.{Known}
+use Rattle.luf_descent.specs.PartEntries.{expr_entries, block_entries, arm_entries, arms_entries, else_entries}
+use Rattle.luf_descent.specs.PartStops.{StopsToken, StopsExpr, StopsBlock, StopsStat, StopsArm, StopsArms, StopsElse}
+use Rattle.luf_descent.specs.Stops.{Known}
 use Rattle.luf_descent.specs.declared.error.ParseErr.{ParseErr}
 use Rattle.luf_descent.specs.declared.error.ParseErr.TheVariants as error
 use Rattle.luf_descent.proofs.Joining.{Joins}
 use Rattle.luf_descent.proofs.Exactness.{then_rest, token_only, Ahead}
 use Rattle.luf_descent.proofs.Ends.{moved}
 use Rattle.luf_descent.proofs.StatForms.{arms_form, arm_form, else_form}
-use Rattle.luf_exact.proofs.Completing.{agree_less, token_agrees, carried, carried_token, Room, within_first, within_last, within_entered, within_later, within_deep, within_as, within_spelled, within_low}
-use Rattle.luf_exact.proofs.Frames.{stops_after, stops_last, stops_wrong, stops_deep, no_stand, one}
-use Rattle.luf_exact.proofs.Low.{low_expr, low_arms, low_else}
-use Rattle.luf_exact.proofs.ExprStops.{not_here, token_here, empty_block, none_later}
--- entries of an empty part, and of the token before it
-use Rattle.luf_exact.proofs.StatStops.{entered_later}
+use Rattle.luf_descent.proofs.Completing.{agree_less, token_agrees, carried, carried_token, Room, within_first, within_last, within_entered, within_later, within_deep, within_as, within_spelled, within_low}
+use Rattle.luf_descent.proofs.Frames.{stops_after, stops_last, stops_wrong, stops_deep, no_stand, one}
+use Rattle.luf_descent.proofs.Low.{low_expr, low_arms, low_else}
+use Rattle.luf_descent.proofs.ExprStops.{not_here, token_here, empty_block, none_later}
+use Rattle.luf_descent.proofs.StatStops.{entered_later}
 
 arms_joined : (level : ℕ) (found rest : List Arm) → arms_entries level (found ++ rest) ≡ arms_entries level found ++ arms_entries level rest
 arms_joined level [] rest = refl
 arms_joined level (x ∷ found) rest = ap (λ es. arm_entries level x ++ es) (arms_joined level found rest) ∙ sym (append_assoc (arm_entries level x) (arms_entries level found) (arms_entries level rest))
 
 pub arms_item : {toks : List Tok} {from at left : ℕ} {e : ParseErr} (found : List Arm) → from ≤ at → ((l : List Tok) → Room toks l at → Joins (AreArms l) from at found) → deepest (map arm_levels found) ≤ left
-    → ((l : List Tok) → AgreeBefore toks l at → (n : ℕ) → Ahead (p.ReadArms l n from) found (p.ReadArms l n at)) → StopsArm toks left at e → StopsArms toks left from e
+    → ((l : List Tok) → AgreeBefore toks l (at + 1) → (n : ℕ) → Ahead (p.ReadArms l n from) found (p.ReadArms l n at)) → StopsArm toks left at e → StopsArms toks left from e
 arms_item found forward joins low ahead h =
     stops_last forward h
     (λ kind w l k le b. record {

@@ -18,17 +18,17 @@ use Rattle.luf_tree.proofs.SyntaxEquations as eq
 use Rattle.luf_tree.proofs.Locality.{local_simple}
 use Rattle.luf_descent.specs.Follow.{NotAt}
 use Rattle.luf_descent.specs.Parts as p
-use Rattle.luf_exact.specs.inner.PartEntries.{expr_entries, body_entries, block_entries}
-use Rattle.luf_exact.specs.inner.PartStops.{StopsToken, StopsOperand, StopsSimple, StopsFuncBody}
-use Rattle.luf_exact.specs.inner.Stops.{Known}
+use Rattle.luf_descent.specs.PartEntries.{expr_entries, body_entries, block_entries}
+use Rattle.luf_descent.specs.PartStops.{StopsToken, StopsOperand, StopsSimple, StopsFuncBody}
+use Rattle.luf_descent.specs.Stops.{Known}
 use Rattle.luf_descent.specs.declared.error.ParseErr.{ParseErr}
 use Rattle.luf_descent.specs.declared.error.ParseErr.TheVariants as error
 use Rattle.luf_descent.proofs.Exactness.{then_rest}
 use Rattle.luf_descent.proofs.Ends.{moved}
 use Rattle.luf_descent.proofs.ExprForms.{operand_inside, unary_form, power_form, simple_inside}
-use Rattle.luf_exact.proofs.Completing.{agree_less, token_agrees, carried, carried_token, none_in, within_first, within_entered, within_none, within_deep, within_as, within_spelled}
-use Rattle.luf_exact.proofs.Frames.{stops_behind, stops_last, stops_form, stops_wrong, stops_deep, one, Three, three}
-use Rattle.luf_exact.proofs.Low.{low_expr}
+use Rattle.luf_descent.proofs.Completing.{agree_less, token_agrees, carried, carried_token, none_in, within_first, within_entered, within_none, within_deep, within_as, within_spelled}
+use Rattle.luf_descent.proofs.Frames.{stops_behind, stops_last, stops_form, stops_wrong, stops_deep, one, Three, three}
+use Rattle.luf_descent.proofs.Low.{low_expr}
 
 -- what is wanted at a place is not there, in each list that agrees up to and with it
 pub not_here : {toks l : List Tok} {t : Tok} (i : ℕ) → AgreeBefore toks l (i + 1) → NotAt toks i t → NotAt l i t

@@ -6,11 +6,12 @@ use Rattle.luf_lex.specs.declared.token.Word.TheVariants as word
 use Rattle.luf_tree.specs.declared.tree.Block.{Block}
 use Rattle.luf_tree.specs.declared.tree.Suffix.{Suffix}
 use Rattle.luf_tree.specs.declared.tree.Field.{Field}
+use Rattle.luf_tree.specs.declared.tree.Expr.{Expr, out-Expr}
 use Rattle.luf_tree.specs.Entry.{Entry, entered}
-use Rattle.luf_tree.specs.Grammar.{IsToken, AreNames, AreParams, IsAttribute, AreDeclared, IsPath, IsMethod, IsExpr, IsOperand, IsSimple, IsPrefix, IsVariable, IsParen, IsHead, AreSuffixes, IsSuffix, IsArgs, AreExprs, IsTable, AreFields, IsField, IsFuncBody, IsBlock, IsReturn, IsStat, IsArm, AreArms, IsElse, IsForStep}
+use Rattle.luf_tree.specs.Grammar.{IsToken, AreNames, AreParams, IsAttribute, AreDeclared, IsPath, IsMethod, IsExpr, IsOperand, IsSimple, IsPrefix, IsVariable, IsParen, IsHead, AreSuffixes, IsSuffix, IsArgs, AreExprs, IsTable, AreFields, IsField, IsFuncBody, IsBlock, IsReturn, IsStat, AreTargets, IsArm, AreArms, IsElse, IsForStep}
 use Rattle.luf_descent.specs.Parts as p
-use Rattle.luf_exact.specs.inner.PartEntries as entries
-use Rattle.luf_exact.specs.inner.Stops.{opens_token, Stops}
+use Rattle.luf_descent.specs.PartEntries as entries
+use Rattle.luf_descent.specs.Stops.{opens_token, Stops, StopsName}
 use Rattle.luf_descent.specs.declared.error.ParseErr.{ParseErr}
 
 abbrev pub no_entries : {A : Type 0} → ℕ → A → List Entry
@@ -82,11 +83,12 @@ StopsStat toks left i P = Stops toks i left false (λ l k x. IsStat l i k x) ent
 abbrev pub StopsNames : List Tok → ℕ → ℕ → ParseErr → Type 0
 StopsNames toks left i = Stops toks i left false (λ l k x. AreNames l i k x) no_entries (λ l n. p.ReadNames l i)
 
-abbrev pub StopsPath : List Tok → ℕ → ℕ → ParseErr → Type 0
-StopsPath toks left i = Stops toks i left false (λ l k x. IsPath l i k x) no_entries (λ l n. p.ReadPath l i)
+-- the path and the method of a function, behind which a `(` stands
+abbrev pub StopsPath : List Tok → ℕ → ParseErr → Type 0
+StopsPath toks i = StopsName toks i (λ l k x. IsPath l i k x) (λ l. p.ReadPath l i)
 
-abbrev pub StopsMethod : List Tok → ℕ → ℕ → ParseErr → Type 0
-StopsMethod toks left i = Stops toks i left false (λ l k x. IsMethod l i k x) no_entries (λ l n. p.ReadMethod l i)
+abbrev pub StopsMethod : List Tok → ℕ → ParseErr → Type 0
+StopsMethod toks i = StopsName toks i (λ l k x. IsMethod l i k x) (λ l. p.ReadMethod l i)
 
 abbrev pub StopsParams : List Tok → ℕ → ℕ → ParseErr → Type 0
 StopsParams toks left i = Stops {A = List ℕ × Bool} toks i left false (λ l k x. AreParams l i k x.0 x.1) no_entries (λ l n. p.ReadParams l i)
@@ -115,3 +117,20 @@ StopsForStep toks left i = Stops toks i left false (λ l k x. IsForStep l i k x)
 
 abbrev pub StopsVariable : List Tok → ℕ → ℕ → ParseErr → Type 0
 StopsVariable toks left i = Stops toks i left false (λ l k x. IsVariable l i k x) entries.expr_entries (λ l n. p.ReadVariable l n i)
+
+-- parts of which the first was read before the place from which the rest is looked for
+
+-- the rest of a chain
+abbrev pub StopsChain : List Tok → ℕ → ℕ → ℕ → Expr → ParseErr → Type 0
+StopsChain toks precedence left at first = Stops toks (out-Expr first).to left false (λ l k x. IsExpr l precedence at k x) entries.expr_entries (λ l n. p.ReadChain l precedence n at first)
+
+-- the rest of an assignment, and its targets
+abbrev pub StopsAssign : List Tok → ℕ → ℕ → Expr → ParseErr → Type 0
+StopsAssign toks left at first = Stops toks (out-Expr first).to left false (λ l k x. IsStat l at k x) entries.stat_entries (λ l n. p.ReadAssign l n at first)
+
+abbrev pub StopsTargets : List Tok → ℕ → ℕ → Expr → ParseErr → Type 0
+StopsTargets toks left at first = Stops toks (out-Expr first).to left false (λ l k x. AreTargets l at k x) entries.exprs_entries (λ l n. p.ReadMoreTargets l n at first)
+
+-- a `for` with a count, behind its `=`
+abbrev pub StopsCount : List Tok → ℕ → ℕ → ℕ → ℕ → ParseErr → Type 0
+StopsCount toks left at name from = Stops toks from left false (λ l k x. IsStat l at k x) entries.stat_entries (λ l n. p.ReadCount l n at name from)

@@ -1,13 +1,13 @@
 -- Why a part is refused at a token: what was read before it begins a part, and what was read with it begins none, or it
 -- enters a level too many. What completes a part need not keep to the levels that are left.
-use Rattle.std.specs.Prelude.{◌≡◌, ℕ, ◌+◌, ◌<◌, ◌≤◌, Bool, true, false, List, [], ◌∷◌, length, Contains}
+use Rattle.std.specs.Prelude.{◌≡◌, ℕ, ◌+◌, ◌<◌, ◌≤◌, ◌⊎◌, Bool, true, false, List, [], ◌∷◌, length, Contains}
 use Rattle.luf_lex.specs.declared.token.Tok.{Tok}
 use Rattle.luf_lex.specs.declared.token.Tok.TheVariants as tok
 use Rattle.luf_lex.specs.declared.token.Sign.{Sign}
 use Rattle.luf_lex.specs.declared.token.Sign.TheVariants as sign
 use Rattle.luf_tree.specs.Agree.{AgreeBefore}
 use Rattle.luf_tree.specs.Entry.{Entry}
-use Rattle.luf_tree.specs.Grammar.{IsToken, NoParenFollows}
+use Rattle.luf_tree.specs.Grammar.{At, IsToken, NoParenFollows}
 use Rattle.luf_descent.specs.Exact.{Alone}
 use Rattle.luf_descent.specs.declared.error.ParseErr.{ParseErr}
 use Rattle.luf_descent.specs.declared.error.ParseErr.TheVariants as error
@@ -72,3 +72,25 @@ pub record Completes {A : Type 0} (kind : Kind) (toks : List Tok) (i left token 
 pub record Stops {A B : Type 0} (toks : List Tok) (i left : ℕ) (paren : Bool) (D : List Tok → ℕ → A → Type 0) (E : ℕ → A → List Entry) (P : List Tok → ℕ → B → Type 0) (e : ParseErr) : Type 0 where
   pub completes : (kind : Kind) (token : ℕ) → Says kind token e → Completes kind toks i left token paren D E
   pub nothing : (token : ℕ) → e ≡ error.Syntax token → (other : List Tok) → AgreeBefore toks other (token + 1) → (n : ℕ) (y : B) → P other n y → ⊥
+
+-- a token that is wanted at a place is missing there
+pub record Missing (toks : List Tok) (at : ℕ) (t : Tok) (e : ParseErr) : Type 0 where
+  pub is : e ≡ error.Syntax at
+  pub other : At toks at t → ⊥
+
+-- a token enters a level, and none is left
+pub record NoLevel (left at : ℕ) (e : ParseErr) : Type 0 where
+  pub is : e ≡ error.TooDeep at
+  pub none : left ≡ 0
+
+-- a name is missing at a place, and completes what was read before it; or no memory was found
+pub record NameMissing {A B : Type 0} (toks : List Tok) (i : ℕ) (D : List Tok → ℕ → A → Type 0) (P : List Tok → B → Type 0) (e : ParseErr) : Type 0 where
+  pub place : ℕ
+  pub is : e ≡ error.Syntax place
+  pub forward : i ≤ place
+  pub within : place ≤ length toks
+  pub begun : (other : List Tok) (k : ℕ) → AgreeBefore toks other place → IsToken other place tok.Name k → (part : A) × D other k part
+  pub nothing : (other : List Tok) → AgreeBefore toks other (place + 1) → (y : B) → P other y → ⊥
+
+abbrev pub StopsName : {A B : Type 0} → List Tok → ℕ → (List Tok → ℕ → A → Type 0) → (List Tok → B → Type 0) → ParseErr → Type 0
+StopsName toks i D P e = (e ≡ error.Memory) ⊎ NameMissing toks i D P e
