@@ -38,9 +38,27 @@ pub fn labels(alloc: Global, src: &[u8], cut: &Cut, c: &Chunk) -> Result<Jumps, 
     ensures bad { IfErr result (λ e. IfBad e (λ b. first_fault (jump_faults (spelling_in src.now cut.now) (occurrences_of c.now)) ≡ Some b)) }
 {
     let os = occurrences(alloc, c)?;
+    labels_read(alloc, src, cut, c, os.as_slice())
+}
+
+/// The same, where what the chunk says is read already.
+pub fn labels_read(
+    alloc: Global,
+    src: &[u8],
+    cut: &Cut,
+    c: &Chunk,
+    os: &[Occurrence],
+) -> Result<Jumps, ScopeErr>
+    requires cut { IsCut src.now cut.now }
+    requires tree { IsChunk (toks_of cut.now) c.now }
+    requires read { os.now ≡ occurrences_of c.now }
+    ensures ok { IfOk result (λ j. AreJumps (spelling_in src.now cut.now) (occurrences_of c.now) j) }
+    ensures accepted { IfOk result (λ _. first_fault (jump_faults (spelling_in src.now cut.now) (occurrences_of c.now)) ≡ None) }
+    ensures bad { IfErr result (λ e. IfBad e (λ b. first_fault (jump_faults (spelling_in src.now cut.now) (occurrences_of c.now)) ≡ Some b)) }
+{
     // Each token has a number, and so has the place behind the last one.
     let _tokens = cut.tokens();
-    jumps_of(alloc, src, cut, os.as_slice())
+    jumps_of(alloc, src, cut, os)
 }
 
 fn jumps_of(alloc: Global, src: &[u8], cut: &Cut, os: &[Occurrence]) -> Result<Jumps, ScopeErr>

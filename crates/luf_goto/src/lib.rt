@@ -17,5 +17,5 @@ mod targets;
 mod twice;
 
 pub use jumps::Jumps;
-pub use labelling::labels;
+pub use labelling::{labels, labels_read};
 pub use luf_memory::Memory;

@@ -12,7 +12,7 @@ use crate::sites::LabelRow;
 use luf_scope::Occurrence;
 use std::alloc::Global;
 
-// Of those that begin at one place the one that ends first.
+// Of those that begin at one place the one that ends first. Most chunks have no labels.
 pub fn scopes_of(
     alloc: Global,
     os: &[Occurrence],
@@ -21,6 +21,9 @@ pub fn scopes_of(
     requires { IsNonDecreasingBy (λ l. l.name) labels.now }
     ensures { IfOk result (λ scopes. AreInnermost (filter_map scope_extent os.now) (map scope_spot labels.now) scopes.items) }
 {
+    if labels.is_empty() {
+        return Ok(Vec::new(alloc));
+    }
     let mut scopes = scope_extents(alloc, os)?;
     let spots = scope_spots(alloc, labels)?;
     innermost(alloc, scopes.as_mut_slice(), 1, spots.as_slice())

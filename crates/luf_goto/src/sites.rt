@@ -3,7 +3,7 @@ ghost use Rattle.std.specs.Prelude.{◌≡◌, ◌++◌, map, IfOk, OnOk};
 ghost use Rattle.std.specs.List.{filter_map};
 ghost use Rattle.std.specs.Option.{option_to_list};
 ghost use Rattle.luf_scope.specs.Order as order;
-ghost use Rattle.luf_goto.specs.inner.Sites.{IsInOrder, home_of, stop_at, function_extent, label_in, goto_in, loop_in, break_in, label_row, goto_row, loop_extent, break_spot};
+ghost use Rattle.luf_goto.specs.inner.Sites.{IsInOrder, home_of, stop_at, function_extent, jump_of, label_in, goto_in, loop_in, break_in, label_row, goto_row, loop_extent, break_spot};
 
 use crate::Memory;
 use crate::holders::{Extent, Spot, last_holders};
@@ -45,14 +45,15 @@ pub fn sites_of(alloc: Global, os: &[Occurrence]) -> Result<Sites, Memory>
     ensures loops { IfOk result (λ s. s.loops.items ≡ filter_map (loop_extent os.now) os.now) }
     ensures breaks { IfOk result (λ s. s.breaks.items ≡ filter_map (break_spot os.now) os.now) }
 {
-    let homes = homes_of(alloc, os)?;
+    let jumps = jumps_in(alloc, os)?;
+    let homes = homes_of(alloc, os, jumps.as_slice())?;
     let mut s = Sites {
         labels: Vec::new(alloc),
         gotos: Vec::new(alloc),
         loops: Vec::new(alloc),
         breaks: Vec::new(alloc),
     };
-    for (i, o) in os.iter().enumerate() {
+    for (i, o) in jumps.iter().enumerate() {
         s.add(o, homes[i])?;
     }
     Ok(s)
@@ -108,13 +109,39 @@ impl Sites {
     }
 }
 
-// For each occurrence the function that holds its place.
-fn homes_of(alloc: Global, os: &[Occurrence]) -> Result<Vec<u32>, Memory>
-    requires { IsInOrder os.now }
-    ensures { IfOk result (λ homes. homes.items ≡ map (λ o. home_of os.now (order.place o)) os.now) }
+// The labels, gotos, loops and breaks, which are few.
+fn jumps_in(alloc: Global, os: &[Occurrence]) -> Result<Vec<Occurrence>, Memory>
+    ensures { IfOk result (λ jumps. jumps.items ≡ filter_map jump_of os.now) }
+{
+    let mut jumps = Vec::new(alloc);
+    for o in os {
+        if let Some(jump) = jump_of(*o) {
+            jumps.push(jump)?;
+        }
+    }
+    Ok(jumps)
+}
+
+fn jump_of(o: Occurrence) -> Option<Occurrence>
+    ensures { result ≡ jump_of o }
+{
+    match o {
+        Occurrence::Label { .. }
+        | Occurrence::Goto { .. }
+        | Occurrence::Loop { .. }
+        | Occurrence::Break(_) => Some(o),
+        _ => None,
+    }
+}
+
+// For each of these occurrences the function that holds its place.
+fn homes_of(alloc: Global, os: &[Occurrence], jumps: &[Occurrence]) -> Result<Vec<u32>, Memory>
+    requires order { IsInOrder os.now }
+    requires jumps { jumps.now ≡ filter_map jump_of os.now }
+    ensures { IfOk result (λ homes. homes.items ≡ map (λ o. home_of os.now (order.place o)) jumps.now) }
 {
     let functions = functions_in(alloc, os)?;
-    let stops = stops_of(alloc, os)?;
+    let stops = stops_of(alloc, jumps)?;
     last_holders(alloc, functions.as_slice(), 1, stops.as_slice())
 }
 

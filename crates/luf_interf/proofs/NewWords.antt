@@ -177,7 +177,7 @@ module _ (spelled : Spelling) (os : List Occurrence) where
 
 -- what declares a local variable stands at a name, or is the implicit `self`, which is fixed
 named_or_fixed : (toks : List Tok) (spelled : Spelling) (u : Occurrence) (v : LocalVariable) → declared_by spelled u ≡ Some v → Named toks u → At toks v.token tok.Name ⊎ (is_fixed v ≡ true)
-named_or_fixed toks spelled (Local name attribute from to) v is named = inl (subst (λ (w : LocalVariable). At toks w.token tok.Name) (same_Some _ v is) named)
+named_or_fixed toks spelled (Local name attribute from to) v is named = inl (subst (λ (w : LocalVariable). At toks w.token tok.Name) (same_Some _ v is) named.0)
 named_or_fixed toks spelled (LocalFunction name from to) v is named = inl (subst (λ (w : LocalVariable). At toks w.token tok.Name) (same_Some _ v is) named)
 named_or_fixed toks spelled (Parameter name from to) v is named = inl (subst (λ (w : LocalVariable). At toks w.token tok.Name) (same_Some _ v is) named)
 named_or_fixed toks spelled (ImplicitSelf colon from to) v is named = inr (sym (ap is_fixed (same_Some _ v is)))

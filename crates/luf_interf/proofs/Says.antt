@@ -57,8 +57,12 @@ among_either (y ∷ xs) ys (there m) = ⊎_elim (λ left. inl (there left)) (λ 
 
 module _ (toks : List Tok) where
   -- what stands at the tokens of an occurrence
+  abbrev pub NamedOption : Option ℕ → Type 0
+  NamedOption None = Unit {0}
+  NamedOption (Some attribute) = At toks attribute tok.Name
+
   abbrev pub Named : Occurrence → Type 0
-  Named (Local name attribute from to) = At toks name tok.Name
+  Named (Local name attribute from to) = At toks name tok.Name × NamedOption attribute
   Named (LocalFunction name from to) = At toks name tok.Name
   Named (Parameter name from to) = At toks name tok.Name
   Named (ImplicitSelf colon from to) = At toks colon (tok.Sign sign.Colon)
@@ -95,6 +99,10 @@ module _ {M : syntax.Shape} (f g : ShapeMap tokens.Tokens M) where
 
   abbrev PathAlike : List ℕ → Type 0
   PathAlike path = (option_map f.name (first_of_path path) ≡ option_map g.name (first_of_path path)) × (map f.leaf (rest_of_path path) ≡ map g.leaf (rest_of_path path))
+
+attribute_named : {toks : List Tok} {i j : ℕ} {a : Option ℕ} → IsAttribute toks i j a → NamedOption toks a
+attribute_named grammar.no_attribute = tt
+attribute_named (grammar.an_attribute _ name _) = name.there
 
 none_named : (toks : List Tok) (u : Occurrence) → Among u [] → Named toks u
 none_named toks u m = elim m [ ]
@@ -145,8 +153,8 @@ module _ {toks : List Tok} {M : syntax.Shape} {f g : ShapeMap tokens.Tokens M} w
   parameters (grammar.names_and_dots d u t) b = parameter_names d b
 
   pub declared_names : {i k : ℕ} {ds : List Declared} → AreDeclared toks i k ds → (from end : ℕ) → Says toks f g (declared_locals from end (map declared_of ds)) (map (bare_declared f) (map declared_of ds) ≡ map (bare_declared g) (map declared_of ds))
-  declared_names (grammar.one_declared {a} t _) from end = to (first t.there nothing) (λ c j. record { name = c.0.0 j; attribute = option_agrees f g a c.0.1 j } ∷ [])
-  declared_names (grammar.more_declared {a} t _ u d) from end = to (first t.there (declared_names d from end)) (λ c j. record { name = c.0.0 j; attribute = option_agrees f g a c.0.1 j } ∷ c.1 j)
+  declared_names (grammar.one_declared {a} t named) from end = to (first (t.there, attribute_named named) nothing) (λ c j. record { name = c.0.0 j; attribute = option_agrees f g a c.0.1 j } ∷ [])
+  declared_names (grammar.more_declared {a} t named u d) from end = to (first (t.there, attribute_named named) (declared_names d from end)) (λ c j. record { name = c.0.0 j; attribute = option_agrees f g a c.0.1 j } ∷ c.1 j)
 
   fields : {i k : ℕ} {path : List ℕ} → IsPath toks i k path → Says toks f g (map Field path) (map f.leaf path ≡ map g.leaf path)
   fields (grammar.path_end t) = to (first t.there nothing) (λ c j. c.0 j ∷ [])

@@ -1,5 +1,5 @@
 -- What is told of new names, token by token, is the least names.
-use Rattle.std.proofs.Common.{◌≡◌, ◌≢◌, ℕ, zero, suc, ◌+◌, ◌<◌, ◌≤◌, ◌⊎◌, inl, inr, Bool, true, false, cond, nat_eq, Option, Some, None, List, [], ◌∷◌, ◌++◌, All, slice_get, map, length, refl, sym, ap, subst, ◌∙◌, arith, if◌then◌else◌}
+use Rattle.std.proofs.Common.{◌≡◌, ℕ, zero, suc, ◌+◌, ◌<◌, ◌≤◌, ◌⊎◌, inl, inr, true, cond, nat_eq, Option, Some, None, List, [], ◌∷◌, ◌++◌, All, slice_get, map, length, refl, sym, ap, subst, ◌∙◌, arith, if◌then◌else◌}
 use Rattle.std.specs.Prelude.{slice_index_or}
 use Rattle.std.specs.Option.{option_map, option_map_or}
 use Rattle.std.proofs.lemmas.Bool.{cases_lt, eq-eqb, ne_eqb}
@@ -10,10 +10,10 @@ use Rattle.luf_name.specs.Order.{IsName, IsNth}
 use Rattle.luf_lex.specs.declared.token.Tok.{Tok}
 use Rattle.luf_lex.specs.declared.token.Tok.TheVariants.{Name}
 use Rattle.luf_tree.specs.declared.tree.Chunk.{Chunk}
-use Rattle.luf_tree.specs.Grammar.{At, IsChunk}
+use Rattle.luf_tree.specs.Grammar.{IsChunk}
 use Rattle.luf_scope.specs.Local.{Spelling, LocalVariable, binder_of, locals_of}
 use Rattle.luf_scope.specs.Jump.{jump_role_of}
-use Rattle.luf_scope.specs.Links.{NameTable, role_at, AreLinks}
+use Rattle.luf_scope.specs.Links.{NameTable, AreLinks}
 use Rattle.luf_scope.specs.Marks.{mark_at}
 use Rattle.luf_scope.specs.Role.{role_of}
 use Rattle.luf_scope.specs.declared.binder.Binder.{Binder}

@@ -19,4 +19,4 @@ pub use laws::{
 };
 pub use luf_memory::Memory;
 pub use name_marks::Names;
-pub use whole::names;
+pub use whole::{names, names_read};

@@ -17,7 +17,7 @@ use crate::{Memory, Names};
 use luf_goto::Jumps;
 use luf_lex::{Cut, Tok};
 use luf_name::{Name, nth};
-use luf_scope::{Binder, JumpRole, Links, Role, occurrences};
+use luf_scope::{Binder, JumpRole, Links, Occurrence, Role, occurrences};
 use luf_tree::Chunk;
 use std::alloc::Global;
 
@@ -37,10 +37,30 @@ pub fn names(
     requires jumps { AreJumps (spelling_in src.now cut.now) (occurrences_of c.now) j.now }
     ensures { IfOk result (λ n. AreNames (spelling_in src.now cut.now) (occurrences_of c.now) n) }
 {
-    let tokens = cut.tokens();
     let os = occurrences(alloc, c)?;
-    let locals = local_names(alloc, src, cut, os.as_slice(), l)?;
-    let labels = label_names(alloc, os.as_slice())?;
+    names_read(alloc, src, cut, c, os.as_slice(), l, j)
+}
+
+/// The same, where what the chunk says is read already.
+pub fn names_read(
+    alloc: Global,
+    src: &[u8],
+    cut: &Cut,
+    c: &Chunk,
+    os: &[Occurrence],
+    l: &Links,
+    j: &Jumps,
+) -> Result<Names, Memory>
+    requires cut { IsCut src.now cut.now }
+    requires tree { IsChunk (toks_of cut.now) c.now }
+    requires read { os.now ≡ occurrences_of c.now }
+    requires links { AreLinks (spelling_in src.now cut.now) (occurrences_of c.now) (length (toks_of cut.now)) l.now }
+    requires jumps { AreJumps (spelling_in src.now cut.now) (occurrences_of c.now) j.now }
+    ensures { IfOk result (λ n. AreNames (spelling_in src.now cut.now) (occurrences_of c.now) n) }
+{
+    let tokens = cut.tokens();
+    let locals = local_names(alloc, src, cut, os, l)?;
+    let labels = label_names(alloc, os)?;
     let mut found = Names::new(alloc);
     for n in 0..tokens {
         if let Some(name) = name_at(cut, l, j, locals.as_slice(), labels.as_slice(), n) {

@@ -11,9 +11,11 @@ pub mod Holding
 pub mod Blocks
 pub mod Lasts
 pub mod Marked
+pub mod Started
 pub mod Swept
 pub mod Mapped
 pub mod Numbered
+pub mod Varied
 pub mod Begun
 pub mod Firsts
 pub mod Functions

@@ -112,6 +112,13 @@ all_scopes P number n (v ∷ vs) each =
     let here : (m : ℕ) → P (record { name = unwrap_or (number v.name) 0; local = m; from = v.from; to = v.to }) = each zero v (omega arith) in
     All-cons P (record { name = unwrap_or (number v.name) 0; local = n; from = v.from; to = v.to }) (scopes_from number (n + 1) vs) (here n) (all_scopes P number (n + 1) vs (λ i d inside. each (suc i) d (omega arith)))
 
+-- the same numbers make the same scopes
+pub same_scopes : (number number' : List ℕ → Option ℕ) → ((name : List ℕ) → number name ≡ number' name) → (n : ℕ) (vs : List LocalVariable) → scopes_from number n vs ≡ scopes_from number' n vs
+same_scopes number number' same n [] = refl
+same_scopes number number' same n (v ∷ vs) =
+    ap (λ (r : Option ℕ). record { name = unwrap_or r 0; local = n; from = v.from; to = v.to } ∷ scopes_from number (n + 1) vs) (same v.name)
+    ∙ ap (λ ss. record { name = unwrap_or (number' v.name) 0; local = n; from = v.from; to = v.to } ∷ ss) (same_scopes number number' same (n + 1) vs)
+
 scopes_numbered : (number : List ℕ → Option ℕ) (n : ℕ) (vs : List LocalVariable) (i : ℕ) (d : Scope) → i < length (scopes_from number n vs) → (get_or (scopes_from number n vs) i d).local ≡ n + i
 scopes_numbered number n [] i d inside = absurd (omega arith)
 scopes_numbered number n (v ∷ vs) zero d inside = omega arith

@@ -4,3 +4,5 @@ pub mod Last
 pub mod Scopes
 pub mod Sweep
 pub mod Laid
+pub mod Starts
+pub mod Buckets

@@ -18,6 +18,7 @@ mod resolving;
 mod roles;
 mod scopes;
 mod stacks;
+mod variables;
 
 pub use binder::{Binder, BinderKind, Role};
 pub use fault::{ScopeBad, ScopeErr, ScopeWhat, first_of};
@@ -28,4 +29,4 @@ pub use luf_memory::Memory;
 pub use marks::Marks;
 pub use occurrence::Occurrence;
 pub use reading::occurrences;
-pub use resolving::resolve;
+pub use resolving::{resolve, resolve_read};

@@ -1,15 +1,14 @@
 // What an occurrence declares, and how its words are spelled.
-ghost use Rattle.std.specs.Prelude.{◌≡◌, ℕ, IfOk, ◌++◌, ◌∷◌, [], map};
+ghost use Rattle.std.specs.Prelude.{◌≡◌};
 ghost use Rattle.std.specs.Option.{option_map};
 ghost use Rattle.luf_lex.specs.Cut.{IsCut};
 ghost use Rattle.luf_scope.specs.Links.{spelling_in};
 ghost use Rattle.luf_scope.specs.Local as local;
-ghost use Rattle.luf_scope.specs.Local.{locals_of, binder_of};
+ghost use Rattle.luf_scope.specs.Local.{binder_of};
 ghost use Rattle.luf_scope.specs.inner.Scopes.{local_of};
 
-use crate::{Binder, BinderKind, Memory, Occurrence};
+use crate::{Binder, BinderKind, Occurrence};
 use luf_lex::Cut;
-use std::alloc::Global;
 
 // A local variable: the token that declares it, its name, how it is declared, and the places at which it is active.
 #[derive(Clone, Copy)]
@@ -113,26 +112,8 @@ fn kind_of(src: &[u8], cut: &Cut, attribute: Option<u32>) -> BinderKind
     }
 }
 
-// The local variables, as a caller sees them.
-pub fn binders_of(
-    alloc: Global,
-    src: &[u8],
-    cut: &Cut,
-    os: &[Occurrence],
-) -> Result<Vec<Binder>, Memory>
-    requires { IsCut src.now cut.now }
-    ensures { IfOk result (λ found. found.items ≡ map binder_of (locals_of (spelling_in src.now cut.now) os.now)) }
-{
-    let mut found = Vec::new(alloc);
-    for o in os {
-        if let Some(v) = declared_by(src, cut, *o) {
-            found.push(binder(v))?;
-        }
-    }
-    Ok(found)
-}
-
-fn binder(v: Variable<'_>) -> Binder
+// A local variable, as a caller sees it.
+pub fn binder(v: Variable<'_>) -> Binder
     ensures { result ≡ binder_of (local_of v.entry) }
 {
     Binder {

@@ -3,7 +3,8 @@ ghost use Rattle.std.specs.Prelude.{◌≡◌, ℕ, ◌<◌, ◌≤◌, ◌++◌
 ghost use Rattle.luf_lex.specs.Cut.{IsCut};
 ghost use Rattle.luf_scope.specs.Links.{spelling_in};
 ghost use Rattle.luf_scope.specs.Order.{place};
-ghost use Rattle.luf_scope.specs.inner.Scopes.{number_in, used_by, meant_by, meant_at};
+ghost use Rattle.luf_scope.specs.inner.Buckets.{number_in};
+ghost use Rattle.luf_scope.specs.inner.Scopes.{used_by, meant_by, meant_at};
 ghost use Rattle.luf_scope.specs.declared.scopes.Scope.{Scope};
 ghost use Rattle.luf_scope.specs.inner.Sweep.{IsSweep, AreRanged};
 
@@ -34,9 +35,9 @@ pub fn meanings<'a>(
     scopes: &[Scope],
 ) -> Result<Vec<Option<u32>>, Memory>
     requires cut { IsCut src.now cut.now }
-    requires scopes { AreRanged (number_in names.now.numbers) scopes.now }
+    requires scopes { AreRanged (number_in names.now.buckets.items) scopes.now }
     requires order { AllPairs (λ u v. place u ≤ place v) os.now }
-    ensures { IfOk result (λ found. found.items ≡ map (meant_by (spelling_in src.now cut.now) (number_in names.now.numbers) scopes.now) os.now) }
+    ensures { IfOk result (λ found. found.items ≡ map (meant_by (spelling_in src.now cut.now) (number_in names.now.buckets.items) scopes.now) os.now) }
 {
     let mut sweep = Sweep {
         place: 0,
@@ -93,10 +94,10 @@ impl Sweep {
         scopes: &[Scope],
     ) -> Result<Option<u32>, Memory>
         requires cut { IsCut src.now cut.now }
-        requires scopes { AreRanged (number_in names.now.numbers) scopes.now }
+        requires scopes { AreRanged (number_in names.now.buckets.items) scopes.now }
         requires sweep { IsSweep scopes.now self.old.place self.old.entered self.old.stacks.items }
         requires ahead { self.old.place ≤ place o }
-        ensures meaning { IfOk result (λ found. found ≡ meant_by (spelling_in src.now cut.now) (number_in names.now.numbers) scopes.now o) }
+        ensures meaning { IfOk result (λ found. found ≡ meant_by (spelling_in src.now cut.now) (number_in names.now.buckets.items) scopes.now o) }
         ensures sweep { OnOk result (IsSweep scopes.now self.new.place self.new.entered self.new.stacks.items) }
         ensures place { OnOk result (self.new.place ≤ place o) }
     {
@@ -116,10 +117,10 @@ impl Sweep {
         scopes: &[Scope],
     ) -> Result<Option<u32>, Memory>
         requires cut { IsCut src.now cut.now }
-        requires scopes { AreRanged (number_in names.now.numbers) scopes.now }
+        requires scopes { AreRanged (number_in names.now.buckets.items) scopes.now }
         requires sweep { IsSweep scopes.now self.old.place self.old.entered self.old.stacks.items }
         requires ahead { self.old.place ≤ token }
-        ensures meaning { IfOk result (λ found. found ≡ meant_at (number_in names.now.numbers) scopes.now token (spelling_in src.now cut.now token)) }
+        ensures meaning { IfOk result (λ found. found ≡ meant_at (number_in names.now.buckets.items) scopes.now token (spelling_in src.now cut.now token)) }
         ensures sweep { OnOk result (IsSweep scopes.now self.new.place self.new.entered self.new.stacks.items) }
         ensures place { OnOk result (self.new.place ≡ token) }
     {

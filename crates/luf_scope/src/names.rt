@@ -1,68 +1,97 @@
 // A number for each name of a local variable.
-ghost use Rattle.std.specs.Prelude.{◌≡◌, ℕ, ◌<◌, ◌^◌, List, Some, None, OnOk, IfOk, cond, length, bytes_eq};
+ghost use Rattle.std.specs.Prelude.{◌≡◌, ℕ, ◌<◌, List, Some, None, OnOk, IfOk, cond, length, bytes_eq};
 ghost use Rattle.std.specs.Option.{option_or};
-ghost use Rattle.luf_lex.specs.Cut.{IsCut};
-ghost use Rattle.luf_scope.specs.Links.{spelling_in};
-ghost use Rattle.luf_scope.specs.Local.{locals_of};
-ghost use Rattle.luf_scope.specs.inner.Scopes.{name_number, number_in};
+ghost use Rattle.luf_scope.specs.inner.Buckets.{number_among, number_in, bucket_from};
 
-use crate::locals::declared_by;
-use crate::{Memory, Occurrence};
-use luf_lex::Cut;
+use crate::Memory;
 use std::alloc::Global;
 use std::collections::BTreeMap;
 
-// The numbers of names.
+// How many buckets names are spread over, so that each has few.
+const BUCKETS: usize = 1024;
+
+// The numbers of the names of a bucket.
 #[derive(Drop)]
-pub struct Names<'a> {
+pub struct Bucket<'a> {
     numbers: BTreeMap<&'a [u8], u32>,
 }
 
-impl<'a> Names<'a> {
-    fn new(alloc: Global) -> Names<'a>
-        ensures { (name : List ℕ) → number_in result.numbers name ≡ None }
+impl<'a> Bucket<'a> {
+    fn new(alloc: Global) -> Bucket<'a>
+        ensures { (name : List ℕ) → number_among result.numbers name ≡ None }
     {
-        Names {
+        Bucket {
             numbers: BTreeMap::new(alloc),
         }
     }
 
-    // The number of a name, if a local variable has it.
-    pub fn find(&self, name: &'a [u8]) -> Option<u32>
-        ensures { result ≡ number_in self.now.numbers name.entry.now }
+    fn find(&self, name: &'a [u8]) -> Option<u32>
+        ensures { result ≡ number_among self.now.numbers name.entry.now }
     {
         self.numbers.get(&name).copied()
     }
 
-    // Numbers a name that has no number yet.
-    fn add(&mut self, name: &'a [u8], number: u32) -> Result<(), Memory>
-        ensures { OnOk result ((other : List ℕ) → number_in self.new.numbers other ≡ option_or (number_in self.old.numbers other) (cond (bytes_eq name.entry.now other) (Some number) None)) }
+    // The number of a name: this one, if it has none yet.
+    fn number(&mut self, name: &'a [u8], number: u32) -> Result<u32, Memory>
+        ensures number { IfOk result (λ n. Some n ≡ number_among self.new.numbers name.entry.now) }
+        ensures names { OnOk result ((other : List ℕ) → number_among self.new.numbers other ≡ option_or (number_among self.old.numbers other) (cond (bytes_eq name.entry.now other) (Some number) None)) }
     {
-        if !self.numbers.contains_key(&name) {
-            self.numbers.insert(name, number)?;
+        match self.find(name) {
+            Some(found) => Ok(found),
+            None => {
+                self.numbers.insert(name, number)?;
+                Ok(number)
+            }
         }
-        Ok(())
     }
 }
 
-// Each name has the number of the first local variable that has it.
-pub fn number_names<'a>(
-    alloc: Global,
-    src: &'a [u8],
-    cut: &Cut,
-    os: &[Occurrence],
-) -> Result<Names<'a>, Memory>
-    requires cut { IsCut src.now cut.now }
-    requires few { length (locals_of (spelling_in src.now cut.now) os.now) < 2 ^ 32 }
-    ensures { IfOk result (λ names. (name : List ℕ) → number_in names.numbers name ≡ name_number (locals_of (spelling_in src.now cut.now) os.now) name) }
-{
-    let mut names = Names::new(alloc);
-    let mut number = 0;
-    for o in os {
-        if let Some(v) = declared_by(src, cut, *o) {
-            names.add(v.name, number)?;
-            number += 1;
+// The numbers of names.
+#[derive(Drop)]
+pub struct Names<'a> {
+    buckets: Vec<Bucket<'a>>,
+}
+
+impl<'a> Names<'a> {
+    pub fn new(alloc: Global) -> Result<Names<'a>, Memory>
+        ensures none { IfOk result (λ names. (name : List ℕ) → number_in names.buckets.items name ≡ None) }
+        ensures count { IfOk result (λ names. length names.buckets.items ≡ 1024) }
+    {
+        let mut buckets = Vec::with_capacity(alloc, BUCKETS)?;
+        for _ in 0..BUCKETS {
+            buckets.push(Bucket::new(alloc))?;
+        }
+        Ok(Names { buckets })
+    }
+
+    // The number of a name, if a local variable has it.
+    pub fn find(&self, name: &'a [u8]) -> Option<u32>
+        ensures { result ≡ number_in self.now.buckets.items name.entry.now }
+    {
+        match self.buckets.get(bucket_of(name)) {
+            Some(bucket) => bucket.find(name),
+            None => None,
         }
     }
-    Ok(names)
+
+    // The number of a name: this one, if it has none yet.
+    pub fn number(&mut self, name: &'a [u8], number: u32) -> Result<u32, Memory>
+        requires count { length self.old.buckets.items ≡ 1024 }
+        ensures count { length self.new.buckets.items ≡ 1024 }
+        ensures number { IfOk result (λ n. Some n ≡ number_in self.new.buckets.items name.entry.now) }
+        ensures names { OnOk result ((other : List ℕ) → number_in self.new.buckets.items other ≡ option_or (number_in self.old.buckets.items other) (cond (bytes_eq name.entry.now other) (Some number) None)) }
+    {
+        self.buckets[bucket_of(name)].number(name, number)
+    }
+}
+
+fn bucket_of(name: &[u8]) -> usize
+    ensures value { result ≡ bucket_from 0 name.now }
+    ensures within { result < 1024 }
+{
+    let mut bucket = 0;
+    for b in name {
+        bucket = (bucket * 31 + *b as usize) % BUCKETS;
+    }
+    bucket
 }

@@ -1,5 +1,5 @@
 // What the names of a chunk mean, or the first fault of a name.
-ghost use Rattle.std.specs.Prelude.{◌≡◌, ◌≤◌, Some, None, IfOk, IfErr, length, map};
+ghost use Rattle.std.specs.Prelude.{◌≡◌, ℕ, List, Some, None, IfOk, IfErr, length, map};
 ghost use Rattle.luf_lex.specs.Cut.{IsCut};
 ghost use Rattle.luf_lex.specs.Tokens.{toks_of};
 ghost use Rattle.luf_tree.specs.Grammar.{IsChunk};
@@ -7,14 +7,15 @@ ghost use Rattle.luf_scope.specs.Fault.{first_fault, name_faults};
 ghost use Rattle.luf_scope.specs.Links.{spelling_in, occurrences_of, AreLinks, IfBad};
 ghost use Rattle.luf_scope.specs.Local.{locals_of};
 ghost use Rattle.luf_scope.specs.Order.{AreOrdered};
-ghost use Rattle.luf_scope.specs.inner.Scopes.{meaning_of};
+ghost use Rattle.luf_scope.specs.inner.Buckets.{number_in};
+ghost use Rattle.luf_scope.specs.inner.Scopes.{meaning_of, name_number, scopes_from};
 
 use crate::checks::name_fault;
-use crate::locals::binders_of;
 use crate::meanings::meanings;
-use crate::names::number_names;
+use crate::names::Names;
 use crate::roles::roles_of;
-use crate::scopes::{in_order, scopes_of};
+use crate::scopes::{Scope, in_order};
+use crate::variables::{Variables, variables_of};
 use crate::{Links, Memory, Occurrence, ScopeErr, occurrences};
 use luf_lex::Cut;
 use luf_tree::Chunk;
@@ -34,7 +35,25 @@ pub fn resolve(alloc: Global, src: &[u8], cut: &Cut, c: &Chunk) -> Result<Links,
     ensures bad { IfErr result (λ e. IfBad e (λ b. first_fault (name_faults (spelling_in src.now cut.now) (occurrences_of c.now)) ≡ Some b)) }
 {
     let os = occurrences(alloc, c)?;
-    links_of(alloc, src, cut, os.as_slice())
+    resolve_read(alloc, src, cut, c, os.as_slice())
+}
+
+/// The same, where what the chunk says is read already.
+pub fn resolve_read(
+    alloc: Global,
+    src: &[u8],
+    cut: &Cut,
+    c: &Chunk,
+    os: &[Occurrence],
+) -> Result<Links, ScopeErr>
+    requires cut { IsCut src.now cut.now }
+    requires tree { IsChunk (toks_of cut.now) c.now }
+    requires read { os.now ≡ occurrences_of c.now }
+    ensures ok { IfOk result (λ links. AreLinks (spelling_in src.now cut.now) (occurrences_of c.now) (length (toks_of cut.now)) links) }
+    ensures accepted { IfOk result (λ _. first_fault (name_faults (spelling_in src.now cut.now) (occurrences_of c.now)) ≡ None) }
+    ensures bad { IfErr result (λ e. IfBad e (λ b. first_fault (name_faults (spelling_in src.now cut.now) (occurrences_of c.now)) ≡ Some b)) }
+{
+    links_of(alloc, src, cut, os)
 }
 
 fn links_of(alloc: Global, src: &[u8], cut: &Cut, os: &[Occurrence]) -> Result<Links, ScopeErr>
@@ -45,8 +64,12 @@ fn links_of(alloc: Global, src: &[u8], cut: &Cut, os: &[Occurrence]) -> Result<L
     ensures bad { IfErr result (λ e. IfBad e (λ b. first_fault (name_faults (spelling_in src.now cut.now) os.now) ≡ Some b)) }
 {
     let tokens = cut.tokens();
-    let binders = binders_of(alloc, src, cut, os)?;
-    let meanings = meanings_of(alloc, src, cut, os)?;
+    let Variables {
+        binders,
+        names,
+        scopes,
+    } = variables_of(alloc, src, cut, os)?;
+    let meanings = meanings_of(alloc, src, cut, os, names, scopes)?;
     match name_fault(alloc, src, cut, os, meanings.as_slice(), binders.as_slice())? {
         Some(bad) => Err(ScopeErr::Bad(bad)),
         None => {
@@ -56,20 +79,22 @@ fn links_of(alloc: Global, src: &[u8], cut: &Cut, os: &[Occurrence]) -> Result<L
     }
 }
 
-// What each occurrence means that names a variable.
-fn meanings_of(
+// What each occurrence means that names a variable, where these are the numbers of names and the scopes.
+fn meanings_of<'a>(
     alloc: Global,
-    src: &[u8],
+    src: &'a [u8],
     cut: &Cut,
     os: &[Occurrence],
+    names: Names<'a>,
+    scopes: Vec<Scope>,
 ) -> Result<Vec<Option<u32>>, Memory>
     requires cut { IsCut src.now cut.now }
     requires order { AreOrdered 0 (length (toks_of cut.now)) (length (toks_of cut.now)) os.now }
-    requires few { length (toks_of cut.now) ≤ 16777216 }
+    requires names { (name : List ℕ) → number_in names.buckets.items name ≡ name_number (locals_of (spelling_in src.now cut.now) os.now) name }
+    requires scopes { scopes.items ≡ scopes_from (name_number (locals_of (spelling_in src.now cut.now) os.now)) 0 (locals_of (spelling_in src.now cut.now) os.now) }
     ensures { let spelled = spelling_in src.now cut.now in IfOk result (λ found. found.items ≡ map (meaning_of spelled (locals_of spelled os.now)) os.now) }
 {
-    let names = number_names(alloc, src, cut, os)?;
-    let scopes = in_order(scopes_of(alloc, src, cut, os, &names)?)?;
+    let scopes = in_order(scopes)?;
     let found = meanings(alloc, src, cut, os, &names, scopes.as_slice())?;
     Ok(found)
 }

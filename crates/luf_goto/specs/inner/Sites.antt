@@ -28,6 +28,14 @@ abbrev pub function_extent : Occurrence → Option Extent
 function_extent (Function from to vararg) = Some (record { class = 0; from = from; to = to; rank = 0 })
 function_extent _ = None
 
+-- what is looked at of a chunk
+abbrev pub jump_of : Occurrence → Option Occurrence
+jump_of (Label name from to at_end) = Some (Label name from to at_end)
+jump_of (Goto token name) = Some (Goto token name)
+jump_of (Loop from to) = Some (Loop from to)
+jump_of (Break token) = Some (Break token)
+jump_of _ = None
+
 abbrev pub label_in : ℕ → Occurrence → Option LabelRow
 label_in home (Label name from to at_end) = Some (record { name = name; class = home; from = from; to = to; at_end = at_end })
 label_in home _ = None

@@ -1,9 +1,5 @@
 -- Scopes of local variables in the order in which they begin, with a number for each name.
 use Rattle.std.specs.Prelude.{◌≡◌, ℕ, ◌+◌, ◌<◌, ◌≤◌, ◌⊎◌, Bool, ◌&&◌, Option, Some, None, List, [], ◌∷◌, unwrap_or, nat_le, nat_lt, nat_eq, bytes_eq, AllPairs}
-use Rattle.std.specs.BTreeMap.{BTreeMap, get_by}
-use denote.Ref.{Bor}
-use Rattle.std.specs.Cmp.Lexicographic.{slice_cmp}
-use Rattle.std.specs.Ordering.{nat_cmp}
 use Rattle.std.specs.List.{position_from}
 use Rattle.std.specs.List.Sorted.{IsPermutation}
 use Rattle.std.specs.Option.{option_map, option_and_then}
@@ -17,10 +13,6 @@ use Rattle.luf_scope.specs.inner.Last.{last_such}
 -- a local variable, without the place where its name lies in memory
 abbrev pub local_of : Variable → LocalVariable
 local_of v = record { token = v.token; name = v.name.now; kind = v.kind; from = v.from; to = v.to }
-
--- the number that a map gives a name
-abbrev pub number_in : BTreeMap (Bor (List ℕ)) ℕ → List ℕ → Option ℕ
-number_in numbers name = get_by (λ k. slice_cmp nat_cmp name k.now) numbers
 
 -- the number of a name: that of the first local variable that has it
 abbrev pub name_number : List LocalVariable → List ℕ → Option ℕ

@@ -1,10 +1,11 @@
-use Rattle.std.proofs.Common.{rules}
-use Rattle.std.proofs.lemmas.List.Sorted.{answers_always}
-use Rattle.luf_scope.proofs.Marked.{found_mark, no_mark}
+use Rattle.std.proofs.Common.{◌≤◌, length, ap, ◌∙◌, subst, arith}
+use Rattle.std.proofs.lemmas.Bool.Decides.{nat_tests}
+use Rattle.luf_scope.specs.Marks.{mark_at}
+use Rattle.luf_scope.proofs.Started.{none_started}
 use Rattle.luf_scope.proofs.marks.Marks.at.Goals as goal
 
-pub returns-in-Ok : goal.returns-in-Ok
-returns-in-Ok g c = found_mark c.args.self.now c.self.inside.marks.items c.deref.result.now c.self.view_is c.deref.ensures.value c.self.invariant c.args.token c.in-Ok.place c.index.result.now c.in-Ok.ensures.bound c.index.ensures (c.in-Ok.ensures.position (λ m. m.0) (answers_always _ _ _ (λ f a r g called. search rules)))
-
-pub returns-in-Err : goal.returns-in-Err
-returns-in-Err g c = no_mark c.args.self.now c.self.inside.marks.items c.deref.result.now c.self.view_is c.deref.ensures.value c.self.invariant c.args.token c.in-Err.field-0 c.in-Err.ensures.bound (c.in-Err.ensures.position (λ m. m.0) (answers_always _ _ _ (λ f a r g called. search rules)))
+pub returns-in-None : goal.returns-in-None
+returns-in-None g c =
+    let past : length c.deref.result.now ≤ c.block_of.result = grind (arith, nat_tests, c.in-None.ensures.lookup.0) in
+    none_started c.self.inside.marks.items c.self.inside.starts.items c.args.token c.block_of.result c.self.invariant.1 c.block_of.ensures.from (subst (λ ss. length ss ≤ c.block_of.result) c.deref.ensures.value past)
+    ∙ ap (λ ms. mark_at ms c.args.token) c.self.view_is

@@ -1,6 +1,6 @@
 use Rattle.luf_lex.specs.Tokens.{toks_of}
 use Rattle.luf_interf.specs.inner.Told.{name_told, AreToldTo}
-use Rattle.luf_interf.proofs.whole.names.Given as goal
+use Rattle.luf_interf.proofs.whole.names_read.Given as goal
 
 -- the names of the tokens so far are told
 abbrev pub invariant-loop-n : goal.invariant-loop-n
