@@ -1,0 +1,19 @@
+pub mod GapAgain
+pub mod FilledAgain
+pub mod Gathered
+pub mod GapWalk
+pub mod GapsAgain
+pub mod ChosenAgain
+pub mod NoteFacts
+pub mod LexedAgain
+pub mod ReadyLaws
+pub mod TwiceIsOnce
+pub mod RequotedUnits
+pub mod RequotedAgain
+pub mod ShortWords
+pub mod WrittenAgain
+pub mod SameDraft
+pub mod ReadAgain
+pub mod FormattedAgain
+pub mod FormattedOnce
+mod Examples

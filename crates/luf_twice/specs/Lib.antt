@@ -1,0 +1,4 @@
+pub mod Again
+pub mod Chooses
+pub mod Ready
+pub mod Twice
