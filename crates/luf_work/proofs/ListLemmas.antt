@@ -1,5 +1,5 @@
 -- When an input has a listing, and which, and when it has a cause of a refusal by `list`, and which.
-use Rattle.std.proofs.Common.{◌≡◌, ◌≢◌, ◌⊎◌, inl, inr, ℕ, List, Ok, Err, refl, sym, ap, ◌∙◌, subst, arith}
+use Rattle.std.proofs.Common.{◌≡◌, ◌≢◌, ◌⊎◌, ℕ, List, Ok, Err, refl, sym, ap, ◌∙◌, arith}
 use Rattle.std.specs.Prelude.{Result, IfErr, IsErrAnd}
 use Rattle.luf_list.specs.Listing.{listing}
 use Rattle.luf_undump.specs.declared.error.ChunkWhat.{ChunkWhat}
@@ -7,7 +7,7 @@ use Rattle.luf_undump.proofs.OneAnswer.{chunk_not_refused, one_cause, one_functi
 use Rattle.luf_work.specs.List.{IsListing, IsListAccepted, IsListRefusal}
 use Rattle.luf_work.specs.declared.refusal.Refusal.{Refusal}
 use Rattle.luf_work.specs.declared.refusal.Refusal.TheVariants.{TooLarge, Lexical, Syntax, TooDeep, Scope, Chunk, ResultTooLarge, Memory}
-use Rattle.luf_work.proofs.WantOfMemory.{memory_or_other}
+use Rattle.luf_work.proofs.Answered.{answered_by, told_by, passed_by, passed_on_by}
 
 pub one_listing : (source text other : List ℕ) → IsListing source text → IsListing source other → text ≡ other
 one_listing source text other h g = h.text_is ∙ ap listing (one_function source h.main g.main h.is g.is) ∙ sym g.text_is
@@ -52,19 +52,15 @@ one_list_refusal source (Chunk at what) Memory h g = absurd g
 
 -- what is no listing of an accepted input is want of memory
 pub list_answered : (source : List ℕ) (r : Result (Unit {0}) Refusal) → IsErrAnd r (λ e. e ≢ Memory → IsListRefusal source e) → IsListAccepted source → (r ≡ Ok tt) ⊎ (r ≡ Err Memory)
-list_answered source (Ok u) cause a = absurd cause
-list_answered source (Err e) cause a = elim (memory_or_other e) [ inl memory ↦ inr (ap Err memory) | inr other ↦ absurd (list_accepted_not_refused source e a (cause other)) ]
+list_answered source r cause a = answered_by (IsListAccepted source) (IsListRefusal source) (list_accepted_not_refused source) r cause a
 
 -- a refusal that has its cause is answered, or want of memory is
 pub list_told : (source : List ℕ) (r : Result (Unit {0}) Refusal) → IsErrAnd r (λ e. e ≢ Memory → IsListRefusal source e) → (refusal : Refusal) → IsListRefusal source refusal → (r ≡ Err refusal) ⊎ (r ≡ Err Memory)
-list_told source (Ok u) cause refusal h = absurd cause
-list_told source (Err e) cause refusal h = elim (memory_or_other e) [ inl memory ↦ inr (ap Err memory) | inr other ↦ inl (ap Err (one_list_refusal source e refusal (cause other) h)) ]
+list_told source r cause refusal h = told_by (IsListRefusal source) (one_list_refusal source) r cause refusal h
 
 -- an error that is passed on is the same
 pub list_passed : (source : List ℕ) {e : Refusal} (r : Result (Unit {0}) Refusal) → IsErrAnd r (λ x. x ≡ e) → (e ≢ Memory → IsListRefusal source e) → IsErrAnd r (λ x. x ≢ Memory → IsListRefusal source x)
-list_passed source (Ok u) is h = absurd is
-list_passed source (Err x) is h = λ other. subst (IsListRefusal source) (sym is) (h (λ e. other (is ∙ e)))
+list_passed source r is h = passed_by (IsListRefusal source) (IsListRefusal source) (λ x cause. cause) r is h
 
 pub list_passed_on : (source : List ℕ) {e : Refusal} (r : Result (Unit {0}) Refusal) → IsErrAnd r (λ x. x ≡ e) → (e ≢ Memory → IsListRefusal source e) → IfErr r (λ x. x ≢ Memory → IsListRefusal source x)
-list_passed_on source (Ok u) is h = cc
-list_passed_on source (Err x) is h = list_passed source (Err x) is h
+list_passed_on source r is h = passed_on_by (IsListRefusal source) (IsListRefusal source) (λ x cause. cause) r is h

@@ -1,9 +1,6 @@
 -- The minified text of a source, from what is written under its least names.
-use Rattle.std.proofs.Common.{◌≡◌, ℕ, ◌≤◌, None, List, Ok, Err, length, ◌∙◌}
+use Rattle.std.proofs.Common.{ℕ, ◌≤◌, List, Ok, Err, length, ◌∙◌}
 use Rattle.std.specs.Prelude.{Result, OnOk}
-use Rattle.luf_resolved.specs.Source.{IsSource, scope_fault_of}
-use Rattle.luf_lex.specs.declared.token.Piece.{Piece}
-use Rattle.luf_tree.specs.declared.tree.Chunk.{Chunk}
 use Rattle.luf_min.specs.Minified.{IsMinified, IsSameProgram}
 use Rattle.luf_min.proofs.Same.{minified_is_same}
 use Rattle.luf_work.specs.Limits.{text_limit}

@@ -1,4 +1,5 @@
 pub mod inner
+pub mod Format
 pub mod Limits
 pub mod List
 pub mod Minify

@@ -1,12 +1,14 @@
 -- Why a source is refused by every job that reads it as one, in the order in which the causes are looked for. Our own rules.
-use Rattle.std.specs.Prelude.{◌≡◌, ℕ, ◌<◌, ◌≤◌, ◌⊎◌, Some, List, length, map, slice_index_or, Result, Err}
+use Rattle.std.specs.Prelude.{◌≡◌, ℕ, ◌<◌, ◌≤◌, Some, List, length, map, slice_index_or}
 use Rattle.luf_text.specs.Place.{place_in}
 use Rattle.luf_text.specs.declared.place.Place.{Place}
 use Rattle.luf_lex.specs.Cut.{IsCut, IsLexFault}
 use Rattle.luf_lex.specs.Tokens.{toks_of, spans_of}
 use Rattle.luf_lex.specs.declared.fault.LexWhat.{LexWhat}
 use Rattle.luf_lex.specs.declared.token.Piece.{Piece}
-use Rattle.luf_parse.specs.Cause.{HasNoTree}
+use Rattle.luf_descent.specs.declared.error.ParseErr.{ParseErr}
+use Rattle.luf_descent.specs.declared.error.ParseErr.TheVariants as error
+use Rattle.luf_exact.specs.Exact.{IsExactCause}
 use Rattle.luf_scope.specs.declared.fault.ScopeWhat.{ScopeWhat}
 use Rattle.luf_tree.specs.declared.tree.Chunk.{Chunk}
 use Rattle.luf_work.specs.Limits.{source_limit}
@@ -24,14 +26,13 @@ pub record IsLexicalAt (source : List ℕ) (place : Place) (what : LexWhat) : Ty
 abbrev pub start_of : List ℕ → List Piece → ℕ → ℕ
 start_of source pieces token = slice_index_or (map (λ s. s.from) (spans_of pieces)) token (length source)
 
--- A source that has a cut, but no tree of at most 200 levels, told at the line and column of a token, or of the end.
--- Which of `Syntax` and `TooDeep` is answered, and at which token, is not said here.
-pub record HasNoTreeAt (source : List ℕ) (place : Place) : Type 0 where
+-- A source that has a cut, but no tree of at most 200 levels, told at the line and column of the token that the exact cause
+-- names, or of the end. The cause is by one of the parser's two words.
+pub record HasNoTreeAt (source : List ℕ) (word : ℕ → ParseErr) (place : Place) : Type 0 where
   pub pieces : List Piece
   pub cut : IsCut source pieces
-  pub none : HasNoTree (toks_of pieces)
   pub token : ℕ
-  pub within : token ≤ length (toks_of pieces)
+  pub cause : IsExactCause (toks_of pieces) (word token)
   pub place_is : place ≡ place_in source (start_of source pieces token)
 
 -- A source with a tree whose first scope fault this is, told at the line and column of its token.
@@ -48,24 +49,9 @@ pub record HasScopeFaultAt (source : List ℕ) (place : Place) (what : ScopeWhat
 abbrev pub IsSourceRefusal : List ℕ → Refusal → Type 0
 IsSourceRefusal source TooLarge = source_limit < length source
 IsSourceRefusal source (Lexical place what) = length source ≤ source_limit × IsLexicalAt source place what
-IsSourceRefusal source (Syntax place) = length source ≤ source_limit × HasNoTreeAt source place
-IsSourceRefusal source (TooDeep place) = length source ≤ source_limit × HasNoTreeAt source place
+IsSourceRefusal source (Syntax place) = length source ≤ source_limit × HasNoTreeAt source error.Syntax place
+IsSourceRefusal source (TooDeep place) = length source ≤ source_limit × HasNoTreeAt source error.TooDeep place
 IsSourceRefusal source (Scope place what) = length source ≤ source_limit × HasScopeFaultAt source place what
 IsSourceRefusal source (BadChunk at what) = ⊥
 IsSourceRefusal source ResultTooLarge = ⊥
 IsSourceRefusal source Memory = ⊥
-
--- the refusals that tell of tokens without a tree of at most 200 levels
-abbrev pub TellsNoTree : Refusal → Type 0
-TellsNoTree (Syntax place) = Unit {0}
-TellsNoTree (TooDeep place) = Unit {0}
-TellsNoTree _ = ⊥
-
--- The one looseness of refusals: tokens that have no such tree may be told by either word and at any token. All
--- other refusals are the same only where they are equal.
-abbrev pub IsSameRefusal : Refusal → Refusal → Type 0
-IsSameRefusal refusal other = (refusal ≡ other) ⊎ (TellsNoTree refusal × TellsNoTree other)
-
--- a job answers a refusal
-abbrev pub AnswersRefusal : Result (Unit {0}) Refusal → Refusal → Type 0
-AnswersRefusal result refusal = (answered : Refusal) × IsSameRefusal refusal answered × (result ≡ Err answered)

@@ -1,9 +1,12 @@
-// Laws of the minified text and of the causes of a refusal: a source has one of the two, and one only.
+// Laws of the texts of a source and of the causes of a refusal: a source has one of the two, and one only.
 ghost use Rattle.std.specs.Prelude.{◌≡◌, ℕ, List};
 ghost use Rattle.luf_min.specs.Minified.{IsMinified};
+ghost use Rattle.luf_conf.specs.declared.settings.Options.{Options};
+ghost use Rattle.luf_style.specs.Styled.{IsFormatted, choices_of};
+ghost use Rattle.luf_work.specs.Format.{IsFormatAccepted, IsFormatRefusal};
 ghost use Rattle.luf_work.specs.List.{IsListing, IsListAccepted, IsListRefusal};
 ghost use Rattle.luf_work.specs.Minify.{IsMinifyAccepted, IsMinifyRefusal};
-ghost use Rattle.luf_work.specs.Refusals.{IsSourceRefusal, IsSameRefusal};
+ghost use Rattle.luf_work.specs.Refusals.{IsSourceRefusal};
 ghost use Rattle.luf_work.specs.Source.{IsAccepted};
 ghost use Rattle.luf_work.specs.declared.refusal.Refusal.{Refusal};
 
@@ -17,10 +20,9 @@ pub fn source_not_refused()
     ensures { (source : List ℕ) (refusal : Refusal) → IsAccepted source → IsSourceRefusal source refusal → ⊥ }
 {}
 
-/// A source has at most one cause for which every job refuses it. That its tokens have no tree of at most 200 levels
-/// may be told by either word and at more than one place.
+/// A source has at most one cause for which every job refuses it.
 pub fn one_source_refusal()
-    ensures { (source : List ℕ) (refusal other : Refusal) → IsSourceRefusal source refusal → IsSourceRefusal source other → IsSameRefusal refusal other }
+    ensures { (source : List ℕ) (refusal other : Refusal) → IsSourceRefusal source refusal → IsSourceRefusal source other → refusal ≡ other }
 {}
 
 /// A source that `minify` accepts has no cause of a refusal.
@@ -28,10 +30,9 @@ pub fn accepted_not_refused()
     ensures { (source : List ℕ) (refusal : Refusal) → IsMinifyAccepted source → IsMinifyRefusal source refusal → ⊥ }
 {}
 
-/// A source has at most one cause of a refusal by `minify`. That its tokens have no tree of at most 200 levels may be told by
-/// either word and at more than one place.
+/// A source has at most one cause of a refusal by `minify`.
 pub fn one_refusal()
-    ensures { (source : List ℕ) (refusal other : Refusal) → IsMinifyRefusal source refusal → IsMinifyRefusal source other → IsSameRefusal refusal other }
+    ensures { (source : List ℕ) (refusal other : Refusal) → IsMinifyRefusal source refusal → IsMinifyRefusal source other → refusal ≡ other }
 {}
 
 /// An input has at most one listing.
@@ -47,4 +48,19 @@ pub fn list_accepted_not_refused()
 /// An input has at most one cause of a refusal by `list`.
 pub fn one_list_refusal()
     ensures { (source : List ℕ) (refusal other : Refusal) → IsListRefusal source refusal → IsListRefusal source other → refusal ≡ other }
+{}
+
+/// A source has at most one formatted text under the same options.
+pub fn one_formatted_text()
+    ensures { (o : Options) (source text other : List ℕ) → IsFormatted (choices_of o) source text → IsFormatted (choices_of o) source other → text ≡ other }
+{}
+
+/// A source that `format` accepts has no cause of a refusal by it.
+pub fn format_accepted_not_refused()
+    ensures { (o : Options) (source : List ℕ) (refusal : Refusal) → IsFormatAccepted o source → IsFormatRefusal o source refusal → ⊥ }
+{}
+
+/// A source has at most one cause of a refusal by `format`.
+pub fn one_format_refusal()
+    ensures { (o : Options) (source : List ℕ) (refusal other : Refusal) → IsFormatRefusal o source refusal → IsFormatRefusal o source other → refusal ≡ other }
 {}

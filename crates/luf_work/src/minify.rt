@@ -1,17 +1,25 @@
 // `minify`: the program of a source under its least names, with the fewest spaces.
-ghost use Rattle.std.specs.Prelude.{◌≡◌, ◌≢◌, ◌<◌, ◌≤◌, ◌↔◌, ◌⊎◌, ◌++◌, ℕ, List, length, Ok, Err, IfErr, OnOk, OnErr, IsErrOf};
+ghost use Rattle.std.specs.Prelude.{◌≡◌, ◌≢◌, ◌<◌, ◌≤◌, ◌↔◌, ◌⊎◌, ◌++◌, ℕ, List, length, Ok, Err, IfErr, IfOk, OnOk, OnErr, IsErrOf};
+ghost use Rattle.luf_lex.specs.Tokens.{toks_of};
+ghost use Rattle.luf_scope.specs.Links.{spelling_in, occurrences_of, AreLinks};
+ghost use Rattle.luf_goto.specs.Jumps.{AreJumps};
+ghost use Rattle.luf_interf.specs.NewNames.{AreNames};
+ghost use Rattle.luf_resolved.specs.Source.{IsSource};
 ghost use Rattle.luf_min.specs.Minified.{IsMinified};
 ghost use Rattle.luf_work.specs.Limits.{source_limit, text_limit};
 ghost use Rattle.luf_work.specs.Minify.{IsMinifyAccepted, IsMinifyRefusal, KeepsProgram};
-ghost use Rattle.luf_work.specs.Refusals.{AnswersRefusal};
 ghost use Rattle.luf_work.specs.inner.Read.{IsRead};
 ghost use Rattle.luf_work.specs.declared.refusal.Refusal.{Refusal as Cause};
 
 use crate::source::{ReadSource, accepted};
-use crate::{Refusal, TEXT_LIMIT};
-use luf_interf::names;
+use crate::{Refusal, SOURCE_LIMIT, TEXT_LIMIT};
+use luf_goto::Jumps;
+use luf_interf::{Names, names_read};
+use luf_lex::Cut;
 use luf_memory::Memory;
 use luf_min::minify;
+use luf_scope::{Links, Occurrence};
+use luf_tree::Chunk;
 use std::alloc::Global;
 
 /// Appends the minified text of a source. A source that `minify` accepts has `Ok` or `Memory`, and no other has `Ok`.
@@ -24,8 +32,10 @@ use std::alloc::Global;
 ///
 /// - `TooLarge`: the source has more than 4,194,304 bytes. Nothing else is looked at, and `Memory` is not answered.
 /// - `Lexical`: the source has no cut. Its first fault is told, by place and kind.
-/// - `Syntax` or `TooDeep`: the tokens have no tree of at most 200 levels. Which of the two is answered, and at which
-///   token, is not said.
+/// - `TooDeep`: the first token is told that enters level 201, in some list that the grammar derives and that begins with
+///   the tokens up to it.
+/// - `Syntax`: no token enters level 201, and the first is told with which those up to it begin no list that the grammar
+///   derives, or the end.
 /// - `Scope`: a name or a jump is refused. The first such fault is told, by place and word.
 /// - `ResultTooLarge`: the source is accepted by every job, and its minified text has more than 4,194,304 bytes.
 /// - `Memory`: no memory was found. It alone has no cause in the source.
@@ -35,13 +45,16 @@ pub fn minify_bytes(alloc: Global, src: &[u8], into: &mut Vec<u8>) -> Result<(),
     ensures complete { IsMinifyAccepted src.now → (result ≡ Ok tt) ⊎ (result ≡ Err Refusal.Memory) }
 
     ensures refused { IfErr result (λ refusal. refusal ≢ Refusal.Memory → IsMinifyRefusal src.now refusal) }
-    ensures exact { (refusal : Cause) → IsMinifyRefusal src.now refusal → AnswersRefusal result refusal ⊎ (result ≡ Err Refusal.Memory) }
+    ensures exact { (refusal : Cause) → IsMinifyRefusal src.now refusal → (result ≡ Err refusal) ⊎ (result ≡ Err Refusal.Memory) }
     ensures too_large { IsErrOf result Refusal.TooLarge ↔ (source_limit < length src.now) }
     ensures err { OnErr result (into.new.items ≡ into.old.items) }
 {
+    if let Err(e) = make_room(src, into) {
+        return Err(Refusal::from(e));
+    }
     let source = accepted(alloc, src)?;
     let len = into.len();
-    if let Err(e) = write_text(alloc, src, &source, into) {
+    if let Err(e) = write_text(alloc, src, source, into) {
         return Err(Refusal::from(e));
     }
     if into.len() - len > TEXT_LIMIT {
@@ -51,24 +64,64 @@ pub fn minify_bytes(alloc: Global, src: &[u8], into: &mut Vec<u8>) -> Result<(),
     Ok(())
 }
 
-/// Appends the text under least names.
+/// Room for a text that is no longer than its source, as most are. It is made before anything else: what glibc takes then
+/// for so much, it does not join with what is free when it is freed.
+fn make_room(src: &[u8], into: &mut Vec<u8>) -> Result<(), Memory>
+    ensures items { into.new.items ≡ into.old.items }
+    ensures within { IfErr result (λ _. length src.now ≤ source_limit) }
+{
+    if src.len() > SOURCE_LIMIT {
+        return Ok(());
+    }
+    into.reserve(src.len())?;
+    Ok(())
+}
+
+/// Appends the text under least names. The tree is dropped last, as `ReadSource` says.
 fn write_text(
     alloc: Global,
     src: &[u8],
-    source: &ReadSource,
+    source: ReadSource,
     into: &mut Vec<u8>,
 ) -> Result<(), Memory>
-    requires { IsRead src.now source.now }
+    requires { IsRead src.now source }
     ensures ok { OnOk result ((text : List ℕ) × IsMinified src.now text × (into.new.items ≡ into.old.items ++ text)) }
     ensures err { OnErr result (into.new.items ≡ into.old.items) }
 {
-    let names = names(
+    let ReadSource {
+        chunk,
+        pieces,
+        links,
+        jumps,
+        occurrences,
+    } = source;
+    let names = new_names(alloc, src, &pieces, &chunk, links, jumps, occurrences)?;
+    minify(alloc, src, &pieces, &chunk, &names, into)
+}
+
+/// The least names. What they are found by is not needed any more.
+fn new_names(
+    alloc: Global,
+    src: &[u8],
+    pieces: &Cut,
+    chunk: &Chunk,
+    links: Links,
+    jumps: Jumps,
+    occurrences: Vec<Occurrence>,
+) -> Result<Names, Memory>
+    requires source { IsSource src.now pieces.now chunk.now }
+    requires read { occurrences.items ≡ occurrences_of chunk.now }
+    requires links { AreLinks (spelling_in src.now pieces.now) (occurrences_of chunk.now) (length (toks_of pieces.now)) links }
+    requires jumps { AreJumps (spelling_in src.now pieces.now) (occurrences_of chunk.now) jumps }
+    ensures { IfOk result (λ n. AreNames (spelling_in src.now pieces.now) (occurrences_of chunk.now) n) }
+{
+    names_read(
         alloc,
         src,
-        &source.pieces,
-        &source.chunk,
-        &source.links,
-        &source.jumps,
-    )?;
-    minify(alloc, src, &source.pieces, &source.chunk, &names, into)
+        pieces,
+        chunk,
+        occurrences.as_slice(),
+        &links,
+        &jumps,
+    )
 }

@@ -12,10 +12,10 @@ pub enum Refusal {
     TooLarge,
     /// The source has no cut into pieces: where its first fault is, and which.
     Lexical(Place, LexWhat),
-    /// The tokens have no tree of at most 200 levels. The place is that of a token, or of the end of the source. Which
-    /// of `Syntax` and `TooDeep` is answered, and at which token, is not said.
+    /// The tokens have no tree, and none of them enters a level behind the 200th: where the first token is with which
+    /// those up to it begin no list that has a tree, or the end of the source.
     Syntax(Place),
-    /// As for `Syntax`.
+    /// The tokens have no tree of at most 200 levels: where the first token is that enters a level too many.
     TooDeep(Place),
     /// A name or a jump is refused: where the token of the first such fault is, and why.
     Scope(Place, ScopeWhat),

@@ -12,22 +12,25 @@ ghost use Rattle.luf_resolved.specs.Source.{IsSource, scope_fault_of};
 ghost use Rattle.luf_work.specs.inner.Read.{IsRead, AreFoundNames, AreFoundJumps};
 
 use crate::{Refusal, SOURCE_LIMIT};
-use luf_goto::{Jumps, labels};
+use luf_goto::{Jumps, labels_read};
 use luf_lex::{Cut, LexErr, cut};
 use luf_memory::Memory;
 use luf_parse::{ParseErr, parse};
-use luf_scope::{Links, ScopeBad, ScopeErr, first_of, resolve};
+use luf_scope::{Links, Occurrence, ScopeBad, ScopeErr, first_of, occurrences, resolve_read};
 use luf_text::{Place, place_of};
 use luf_tree::Chunk;
 use std::alloc::Global;
 
-/// A source that every job accepts: its pieces, its tree, and what its names and labels are.
+/// A source that every job accepts: its pieces, what its names and labels are, what its chunk says of them, and its tree.
+/// The tree is dropped last: an allocator that joins what is free when something large is freed, as glibc's, need not do so
+/// for the many small parts of it.
 #[derive(Drop)]
 pub(crate) struct ReadSource {
     pub pieces: Cut,
-    pub chunk: Chunk,
     pub links: Links,
     pub jumps: Jumps,
+    pub occurrences: Vec<Occurrence>,
+    pub chunk: Chunk,
 }
 
 /// A source that every job accepts, or the first cause for which it is refused.
@@ -45,9 +48,10 @@ pub(crate) fn accepted(alloc: Global, src: &[u8]) -> Result<ReadSource, Refusal>
     let meanings = meanings_of(alloc, src, &pieces, &chunk)?;
     Ok(ReadSource {
         pieces,
-        chunk,
         links: meanings.links,
         jumps: meanings.jumps,
+        occurrences: meanings.occurrences,
+        chunk,
     })
 }
 
@@ -65,7 +69,7 @@ fn pieces_of(alloc: Global, src: &[u8]) -> Result<Cut, Refusal>
     }
 }
 
-/// The tree of a source's tokens, or the place of one of them or of the end, where there is none.
+/// The tree of a source's tokens, or the place of the token that the exact cause names why there is none.
 fn tree_of(alloc: Global, src: &[u8], pieces: &Cut) -> Result<Chunk, Refusal>
     requires within { length src.now ≤ source_limit }
     requires cut { IsCut src.now pieces.now }
@@ -83,11 +87,12 @@ fn tree_of(alloc: Global, src: &[u8], pieces: &Cut) -> Result<Chunk, Refusal>
     }
 }
 
-/// What the names and the labels of a source are.
+/// What the names and the labels of a source are, and what its chunk says of them.
 #[derive(Drop)]
 struct Meanings {
     links: Links,
     jumps: Jumps,
+    occurrences: Vec<Occurrence>,
 }
 
 /// What the names and the labels of a source are, or the place of its first scope fault.
@@ -96,14 +101,22 @@ fn meanings_of(alloc: Global, src: &[u8], pieces: &Cut, chunk: &Chunk) -> Result
     requires source { IsSource src.now pieces.now chunk.now }
     ensures links { IfOk result (λ m. AreLinks (spelling_in src.now pieces.now) (occurrences_of chunk.now) (length (toks_of pieces.now)) m.links) }
     ensures jumps { IfOk result (λ m. AreJumps (spelling_in src.now pieces.now) (occurrences_of chunk.now) m.jumps) }
+    ensures read { IfOk result (λ m. m.occurrences.items ≡ occurrences_of chunk.now) }
     ensures ok { IfOk result (λ _. scope_fault_of src.now pieces.now chunk.now ≡ None) }
     ensures refused { IfErr result (λ refusal. refusal ≢ Refusal.Memory → IsSourceRefusal src.now refusal) }
     ensures within { ¬ IsErrOf result Refusal.TooLarge }
 {
-    let names = names_of(alloc, src, pieces, chunk)?;
-    let jumps = jumps_of(alloc, src, pieces, chunk)?;
+    let occurrences = occurrences(alloc, chunk)?;
+    let names = names_of(alloc, src, pieces, chunk, occurrences.as_slice())?;
+    let jumps = jumps_of(alloc, src, pieces, chunk, occurrences.as_slice())?;
     let bad = match (names, jumps) {
-        (Ok(links), Ok(jumps)) => return Ok(Meanings { links, jumps }),
+        (Ok(links), Ok(jumps)) => {
+            return Ok(Meanings {
+                links,
+                jumps,
+                occurrences,
+            });
+        }
         (Ok(_), Err(jump)) => jump,
         (Err(name), Ok(_)) => name,
         (Err(name), Err(jump)) => first_of_two(name, jump),
@@ -127,11 +140,13 @@ fn names_of(
     src: &[u8],
     pieces: &Cut,
     chunk: &Chunk,
+    os: &[Occurrence],
 ) -> Result<Result<Links, ScopeBad>, Memory>
-    requires { IsSource src.now pieces.now chunk.now }
+    requires source { IsSource src.now pieces.now chunk.now }
+    requires read { os.now ≡ occurrences_of chunk.now }
     ensures { IfOk result (λ found. AreFoundNames src.now pieces.now chunk.now found) }
 {
-    match resolve(alloc, src, pieces, chunk) {
+    match resolve_read(alloc, src, pieces, chunk, os) {
         Ok(links) => Ok(Ok(links)),
         Err(ScopeErr::Bad(bad)) => Ok(Err(bad)),
         Err(ScopeErr::Memory) => Err(Memory),
@@ -144,11 +159,13 @@ fn jumps_of(
     src: &[u8],
     pieces: &Cut,
     chunk: &Chunk,
+    os: &[Occurrence],
 ) -> Result<Result<Jumps, ScopeBad>, Memory>
-    requires { IsSource src.now pieces.now chunk.now }
+    requires source { IsSource src.now pieces.now chunk.now }
+    requires read { os.now ≡ occurrences_of chunk.now }
     ensures { IfOk result (λ found. AreFoundJumps src.now pieces.now chunk.now found) }
 {
-    match labels(alloc, src, pieces, chunk) {
+    match labels_read(alloc, src, pieces, chunk, os) {
         Ok(jumps) => Ok(Ok(jumps)),
         Err(ScopeErr::Bad(bad)) => Ok(Err(bad)),
         Err(ScopeErr::Memory) => Err(Memory),

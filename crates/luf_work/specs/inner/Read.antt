@@ -28,3 +28,4 @@ pub record IsRead (source : List ℕ) (a : ReadSource) : Type 0 where
   pub scopes : scope_fault_of source a.pieces a.chunk ≡ None
   pub links : AreLinks (spelling_in source a.pieces) (occurrences_of a.chunk) (length (toks_of a.pieces)) a.links
   pub jumps : AreJumps (spelling_in source a.pieces) (occurrences_of a.chunk) a.jumps
+  pub read : a.occurrences.items ≡ occurrences_of a.chunk
