@@ -1,8 +1,7 @@
 -- What one source comes to, from the answer to it; and the counts and causes of its turn.
-use Rattle.std.proofs.Common.{◌≡◌, ◌≢◌, ◌⊎◌, inl, inr, ℕ, zero, suc, ◌+◌, ◌<◌, List, [], ◌∷◌, ◌++◌, length, Option, Some, None, Err, refl, sym, ap, ◌∙◌, subst, arith, length-append}
+use Rattle.std.proofs.Common.{◌≡◌, ◌≢◌, ◌⊎◌, inl, inr, ℕ, zero, suc, ◌+◌, ◌<◌, List, [], ◌∷◌, ◌++◌, length, Option, Some, None, Result, Ok, Err, IfOk, refl, sym, ap, ◌∙◌, subst, arith, length-append}
 use Rattle.std.specs.Option.{ForSome}
 use Rattle.std.specs.FinMap.{get}
-use Rattle.luf_io.specs.Count.{Rose}
 use Rattle.luf_io.specs.Files.{FileMap, IsTooLong}
 use Rattle.luf_io.specs.Source.{Taken}
 use Rattle.luf_io.specs.Read.{PullsWithin}
@@ -11,32 +10,67 @@ use Rattle.luf_io.specs.declared.read.ReadErr.TheVariants as read
 use Rattle.luf_work.specs.Limits.{source_limit}
 use Rattle.luf_work.specs.declared.refusal.Refusal.{Refusal}
 use Rattle.luf_work.specs.declared.refusal.Refusal.TheVariants.{TooLarge, Memory}
-use Rattle.luafmt.specs.Command.{Writes, Refuses}
-use Rattle.luafmt.specs.Counts.{Counts, counts, CouldNotWrite, of_out, of_errs}
-use Rattle.luafmt.specs.Line.{line_of, refusal_line}
-use Rattle.luafmt.specs.Outcome.{Turn, Comes, refused, done}
-use Rattle.luafmt.specs.declared.command.Command.{Command}
-use Rattle.luafmt.specs.declared.command.Command.TheVariants as command
-use Rattle.luafmt.specs.declared.status.Status.TheVariants.{Done, Refused}
+use Rattle.luafmt.specs.Command.{manner_of, Writes, Refuses}
+use Rattle.luafmt.specs.Counts.{counts}
+use Rattle.luafmt.specs.Line.{line_of, refusal_line, differs_line}
+use Rattle.luafmt.specs.Outcome.{Turn, Comes, refused, shown, unchanged, differs, replaced}
+use Rattle.luafmt.specs.declared.command.Job.{Job}
+use Rattle.luafmt.specs.declared.command.Job.TheVariants as job
+use Rattle.luafmt.specs.declared.command.Manner.TheVariants.{Show, Compare, Rewrite}
+use Rattle.luafmt.specs.declared.status.Status.TheVariants.{Done, Differs, Refused}
 
 -- the row of a source that is refused, with its line
-pub refused_comes : (c : Command) (name contents : List ℕ) (t : Turn) (refusal : Refusal) → (refusal ≢ Memory → Refuses c contents refusal) → ((line : List ℕ) × (refusal_line name refusal ≡ Some line) × (t ≡ record { status = Refused; out = []; errs = line_of line; rewritten = None })) → Comes c name contents t
-refused_comes c name contents t refusal cause h = subst (λ (v : Turn). Comes c name contents v) (sym h.2) (refused c name contents h.0 refusal (cause other) h.1)
+pub refused_comes : (j : Job) (name contents : List ℕ) (t : Turn) (refusal : Refusal) → (refusal ≢ Memory → Refuses j contents refusal) → ((line : List ℕ) × (refusal_line name refusal ≡ Some line) × (t ≡ record { status = Refused; out = []; errs = line_of line; rewritten = None })) → Comes j name contents t
+refused_comes j name contents t refusal cause h = subst (λ (v : Turn). Comes j name contents v) (sym h.2) (refused j name contents h.0 refusal (cause other) h.1)
   where
     other : refusal ≡ Memory → ⊥
     other e = let none : None ≡ Some h.0 = ap (refusal_line name) (sym e) ∙ h.1 in cc
 
--- the row of an accepted source, of which a text was written into a buffer that was empty
-pub done_comes : (c : Command) (name contents out errs text : List ℕ) → Writes c contents text → out ≡ [] ++ text → errs ≡ [] → Comes c name contents (record { status = Done; out = out; errs = errs; rewritten = None })
-done_comes c name contents out errs text written is none =
-    subst (λ (line : List ℕ). Comes c name contents (record { status = Done; out = out; errs = line; rewritten = None })) (sym none)
-    (subst (λ (bytes : List ℕ). Comes c name contents (record { status = Done; out = bytes; errs = []; rewritten = None })) (sym is) (done c name contents text written))
+-- a source that is done
+abbrev pub done_turn : List ℕ → Option (List ℕ) → Turn
+done_turn out rewritten = record { status = Done; out = out; errs = []; rewritten = rewritten }
 
--- each command refuses a source that is too large
-pub too_large : (c : Command) (contents : List ℕ) → source_limit < length contents → Refuses c contents TooLarge
-too_large command.Minify contents large = large
-too_large command.Check contents large = large
-too_large command.List contents large = large
+-- the rows of an accepted source
+pub shown_comes : (j : Job) (name contents text : List ℕ) (t : Turn) → manner_of j ≡ Show → Writes j contents text → t ≡ done_turn text None → Comes j name contents t
+shown_comes j name contents text t m written is = subst (λ (v : Turn). Comes j name contents v) (sym is) (shown j name contents text m written)
+
+not_shown : (j : Job) → (manner_of j ≡ Compare) ⊎ (manner_of j ≡ Rewrite) → manner_of j ≢ Show
+not_shown j (inl is) show = let e : Compare ≡ Show = sym is ∙ show in absurd cc
+not_shown j (inr is) show = let e : Rewrite ≡ Show = sym is ∙ show in absurd cc
+
+pub unchanged_comes : (j : Job) (name contents text out : List ℕ) (t : Turn) → (manner_of j ≡ Compare) ⊎ (manner_of j ≡ Rewrite) → Writes j contents text → text ≡ contents → out ≡ [] → t ≡ done_turn out None → Comes j name contents t
+unchanged_comes j name contents text out t m written same none is =
+    subst (λ (v : Turn). Comes j name contents v) (sym (is ∙ ap (λ (o : List ℕ). done_turn o None) none)) (unchanged j name contents (not_shown j m) (subst (Writes j contents) same written))
+
+pub differs_comes : (j : Job) (name contents text out errs : List ℕ) → manner_of j ≡ Compare → Writes j contents text → text ≢ contents → out ≡ [] → errs ≡ line_of (differs_line name) → Comes j name contents (record { status = Differs; out = out; errs = errs; rewritten = None })
+differs_comes j name contents text out errs m written other none is =
+    subst (λ (line : List ℕ). Comes j name contents (record { status = Differs; out = out; errs = line; rewritten = None })) (sym is)
+    (subst (λ (bytes : List ℕ). Comes j name contents (record { status = Differs; out = bytes; errs = line_of (differs_line name); rewritten = None })) (sym none) (differs j name contents text m written other))
+
+pub replaced_comes : (j : Job) (name contents text out : List ℕ) (t : Turn) → manner_of j ≡ Rewrite → Writes j contents text → text ≢ contents → out ≡ [] → t ≡ done_turn out (Some text) → Comes j name contents t
+replaced_comes j name contents text out t m written other none is =
+    subst (λ (v : Turn). Comes j name contents v) (sym (is ∙ ap (λ (o : List ℕ). done_turn o (Some text)) none)) (replaced j name contents text m written other)
+
+-- the answer to a source that is refused, where there is one
+pub refused_answer : {E : Type 0} (j : Job) (name contents : List ℕ) (r : Result Turn E) (refusal : Refusal) → (refusal ≢ Memory → Refuses j contents refusal)
+    → IfOk r (λ t. (line : List ℕ) × (refusal_line name refusal ≡ Some line) × (t ≡ record { status = Refused; out = []; errs = line_of line; rewritten = None })) → IfOk r (Comes j name contents)
+refused_answer j name contents (Ok t) refusal cause h = refused_comes j name contents t refusal cause h
+refused_answer j name contents (Err e) refusal cause h = tt
+
+-- a turn that rewrites its file is one of a job that does so
+pub rewrites : (j : Job) (name contents : List ℕ) (t : Turn) → Comes j name contents t → t.rewritten ≢ None → manner_of j ≡ Rewrite
+rewrites j name contents t (refused _ _ _ _ _ _ _) some = absurd (some refl)
+rewrites j name contents t (shown _ _ _ _ _ _) some = absurd (some refl)
+rewrites j name contents t (unchanged _ _ _ _ _) some = absurd (some refl)
+rewrites j name contents t (differs _ _ _ _ _ _ _) some = absurd (some refl)
+rewrites j name contents t (replaced _ _ _ _ m _ _) some = m
+
+-- each job refuses a source that is too large
+pub too_large : (j : Job) (contents : List ℕ) → source_limit < length contents → Refuses j contents TooLarge
+too_large (job.Format o m) contents large = large
+too_large job.Minify contents large = large
+too_large job.Check contents large = large
+too_large job.List contents large = large
 
 -- some list is longer than a number
 longer : (n : ℕ) → (xs : List ℕ) × (n < length xs)
@@ -47,9 +81,9 @@ same_told : (files others : FileMap) (name bytes : List ℕ) → Some files ≡ 
 same_told files others name bytes same found = cc
 
 -- a file that is too long has such contents, those that are told or any
-pub too_long_file : (told : Option FileMap) (name : List ℕ) → IsTooLong told name source_limit → (contents : List ℕ) × ForSome told (λ files. get files name ≡ Some contents) × (source_limit < length contents)
-too_long_file None name long = let any = longer source_limit in (any.0, λ files e. absurd cc, any.1)
-too_long_file (Some files) name long = let file = long files refl in (file.0, λ others e. same_told files others name file.0 e file.1, file.2)
+pub too_long_file : (told : Option FileMap) (name : List ℕ) (most : ℕ) → IsTooLong told name most → (contents : List ℕ) × ForSome told (λ files. get files name ≡ Some contents) × (most < length contents)
+too_long_file None name most long = let any = longer most in (any.0, λ files e. absurd cc, any.1)
+too_long_file (Some files) name most long = let file = long files refl in (file.0, λ others e. same_told files others name file.0 e file.1, file.2)
 
 contents_pulled : (left : Option (List ℕ)) (pulled : List ℕ) (after : Option (List ℕ)) → Taken left pulled after → source_limit < length pulled → (contents : List ℕ) × ForSome left (λ bytes. bytes ≡ contents) × (source_limit < length contents)
 contents_pulled left pulled None taken large = (pulled, λ told e. cc, large)
@@ -66,6 +100,7 @@ too_long_input left after pulled e word taken limit =
 pub same_counts : {a b c d e v w x y z : ℕ} → a ≡ v → b ≡ w → c ≡ x → d ≡ y → e ≡ z → counts a b c d e ≡ counts v w x y z
 same_counts p q r s t = λ i. counts (p i) (q i) (r i) (s i) (t i)
 
-pub could_not_write : (before after : Counts) → Rose before.out after.out ⊎ Rose before.errs after.errs → CouldNotWrite before after
-could_not_write before after (inl rose) = of_out rose
-could_not_write before after (inr rose) = of_errs rose
+-- a cause of the first two
+pub first_two : {A B C : Type 0} → A ⊎ B → A ⊎ B ⊎ C
+first_two (inl rose) = inl rose
+first_two (inr rose) = inr (inl rose)

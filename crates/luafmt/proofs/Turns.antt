@@ -7,46 +7,24 @@ use Rattle.std.proofs.lemmas.List.{take_all, take_more, take-append-drop, map-ap
 use Rattle.luf_io.specs.Files.{FileMap}
 use Rattle.luf_io.specs.Sink.{Appends}
 use Rattle.luf_io.proofs.Pieces.{Appends-append}
-use Rattle.luafmt.specs.Counts.{Counts, CouldNotWrite, ReadsAreCalm, WritesAreCalm}
-use Rattle.luafmt.specs.Outcome.{Origin, input, file, name_of, Holds, Turn, Comes, refused, done, rewritten_by, InTurn, no_more, one_more, origins, or_next, status_of, out_of, errs_of}
-use Rattle.luafmt.specs.declared.command.Command.{Command}
+use Rattle.luafmt.specs.Counts.{Counts, ReadsAreCalm, WritesAreCalm}
+use Rattle.luafmt.specs.Outcome.{Origin, file, name_of, Holds, Turn, Comes, rewritten_by, InTurn, no_more, one_more, origins, or_next, status_of, out_of, errs_of}
+use Rattle.luafmt.specs.declared.command.Job.{Job}
 use Rattle.luafmt.specs.declared.status.Status.{Status}
 use Rattle.luafmt.specs.declared.status.Status.TheVariants.{Done, Differs, Usage, Refused, ReadFault, WriteFault, NoMemory, Config}
-use Rattle.luafmt.specs.inner.Ended.{World, Through, CannotRead, Halted, unread, starved, unwritten, Ended}
-
--- ---- the files
-
--- no row of the table rewrites a file
-kept : (command : Command) (name contents : List ℕ) (t : Turn) → Comes command name contents t → t.rewritten ≡ None
-kept command name contents t (refused _ _ _ _ _ _ _) = refl
-kept command name contents t (done _ _ _ _ _) = refl
-
-rewritten_none : (origin : Origin) (told : Option FileMap) (r : Option (List ℕ)) → r ≡ None → rewritten_by origin r told ≡ told
-rewritten_none input told r e = refl
-rewritten_none (file name) told r e = ap (λ (s : Option (List ℕ)). rewritten_by (file name) s told) e
-
--- so the files stay at a turn
-pub turn_kept : (command : Command) (origin : Origin) (contents : List ℕ) (t : Turn) (told : Option FileMap) → Comes command (name_of origin) contents t → rewritten_by origin t.rewritten told ≡ told
-turn_kept command origin contents t told comes = rewritten_none origin told t.rewritten (kept command (name_of origin) contents t comes)
-
--- and at all turns
-pub told_kept : (command : Command) (left : Option (List ℕ)) (told after : Option FileMap) (origins : List Origin) (turns : List Turn) → InTurn command left told origins turns after → after ≡ told
-told_kept command left told after origins turns (no_more _ _ _) = refl
-told_kept command left told after origins turns (one_more _ _ _ _ origin later contents t others holds comes rest) =
-    told_kept command left (rewritten_by origin t.rewritten told) after later others rest ∙ turn_kept command origin contents t told comes
+use Rattle.luafmt.specs.inner.Ended.{World, Through, CannotRead, CannotWrite, Halted, unread, starved, unwritten, Ended}
 
 -- ---- joined
 
-pub one_turn : (command : Command) (left : Option (List ℕ)) (told : Option FileMap) (origin : Origin) (contents : List ℕ) (t : Turn) → Holds left told origin contents → Comes command (name_of origin) contents t → InTurn command left told (origin ∷ []) (t ∷ []) told
-one_turn command left told origin contents t holds comes =
-    one_more command left told told origin [] contents t [] holds comes
-    (subst (λ (files : Option FileMap). InTurn command left files [] [] told) (sym (turn_kept command origin contents t told comes)) (no_more command left told))
+pub one_turn : (job : Job) (left : Option (List ℕ)) (told : Option FileMap) (origin : Origin) (contents : List ℕ) (t : Turn) → Holds left told origin contents → Comes job (name_of origin) contents t → InTurn job left told (origin ∷ []) (t ∷ []) (rewritten_by origin t.rewritten told)
+one_turn job left told origin contents t holds comes =
+    one_more job left told (rewritten_by origin t.rewritten told) origin [] contents t [] holds comes (no_more job left (rewritten_by origin t.rewritten told))
 
-pub in_turn_append : (command : Command) (left : Option (List ℕ)) (told middle after : Option FileMap) (first later : List Origin) (turns others : List Turn) → InTurn command left told first turns middle → InTurn command left middle later others after → InTurn command left told (first ++ later) (turns ++ others) after
-in_turn_append command left told middle after first later turns others (no_more _ _ _) second = second
-in_turn_append command left told middle after first later turns others (one_more _ _ _ _ origin origins contents t rest holds comes in_turn) second =
-    one_more command left told after origin (origins ++ later) contents t (rest ++ others) holds comes
-    (in_turn_append command left (rewritten_by origin t.rewritten told) middle after origins later rest others in_turn second)
+pub in_turn_append : (job : Job) (left : Option (List ℕ)) (told middle after : Option FileMap) (first later : List Origin) (turns others : List Turn) → InTurn job left told first turns middle → InTurn job left middle later others after → InTurn job left told (first ++ later) (turns ++ others) after
+in_turn_append job left told middle after first later turns others (no_more _ _ _) second = second
+in_turn_append job left told middle after first later turns others (one_more _ _ _ _ origin origins contents t rest holds comes in_turn) second =
+    one_more job left told after origin (origins ++ later) contents t (rest ++ others) holds comes
+    (in_turn_append job left (rewritten_by origin t.rewritten told) middle after origins later rest others in_turn second)
 
 or_next_assoc : (a b c : Status) → or_next (or_next a b) c ≡ or_next a (or_next b c)
 or_next_assoc Done b c = refl
@@ -95,56 +73,56 @@ part_put before middle after a b n first second =
 
 -- ---- the end of one source
 
-pub one_through : (command : Command) (left : Option (List ℕ)) (origin : Origin) (contents : List ℕ) (t : Turn) (s : Status) (before after : World) → s ≡ t.status → Holds left before.told origin contents → Comes command (name_of origin) contents t
-    → after.told ≡ before.told → Appends before.out t.out after.out → Appends before.errs t.errs after.errs → after.counts ≡ before.counts → Through command left (origin ∷ []) before after s
-one_through command left origin contents t s before after status holds comes told out errs counts = record {
+pub one_through : (job : Job) (left : Option (List ℕ)) (origin : Origin) (contents : List ℕ) (t : Turn) (s : Status) (before after : World) → s ≡ t.status → Holds left before.told origin contents → Comes job (name_of origin) contents t
+    → after.told ≡ rewritten_by origin t.rewritten before.told → Appends before.out t.out after.out → Appends before.errs t.errs after.errs → after.counts ≡ before.counts → Through job left (origin ∷ []) before after s
+one_through job left origin contents t s before after status holds comes told out errs counts = record {
   turns = t ∷ [];
-  in_turn = subst (λ (files : Option FileMap). InTurn command left before.told (origin ∷ []) (t ∷ []) files) (sym told) (one_turn command left before.told origin contents t holds comes);
+  in_turn = subst (λ (files : Option FileMap). InTurn job left before.told (origin ∷ []) (t ∷ []) files) (sym told) (one_turn job left before.told origin contents t holds comes);
   status_is = status ∙ sym (or_next_done t.status);
   out = alone before.out after.out t.out out;
   errs = alone before.errs after.errs t.errs errs;
   counts = counts;
 }
 
-no_turn : (command : Command) (left : Option (List ℕ)) (told after : Option FileMap) → after ≡ told → InTurn command left told [] [] after
-no_turn command left told after is = subst (λ (files : Option FileMap). InTurn command left told [] [] files) (sym is) (no_more command left told)
+no_turn : (job : Job) (left : Option (List ℕ)) (told after : Option FileMap) → after ≡ told → InTurn job left told [] [] after
+no_turn job left told after is = subst (λ (files : Option FileMap). InTurn job left told [] [] files) (sym is) (no_more job left told)
 
-pub one_unread : (command : Command) (left : Option (List ℕ)) (origin : Origin) (before after : World)
-    → after.told ≡ before.told → after.out ≡ before.out → after.errs ≡ before.errs → WritesAreCalm before.counts after.counts → CannotRead origin before.told before.counts after.counts → Halted command left (origin ∷ []) before after ReadFault
-one_unread command left origin before after told out errs calm cause = unread (record {
+pub one_unread : (job : Job) (left : Option (List ℕ)) (origin : Origin) (before after : World)
+    → after.told ≡ before.told → after.out ≡ before.out → after.errs ≡ before.errs → WritesAreCalm before.counts after.counts → CannotRead origin before.told before.counts after.counts → Halted job left (origin ∷ []) before after ReadFault
+one_unread job left origin before after told out errs calm cause = unread (record {
   first = [];
   origin = origin;
   later = [];
   is = refl;
   turns = [];
-  in_turn = no_turn command left before.told after.told told;
+  in_turn = no_turn job left before.told after.told told;
   out = nothing_put before.out after.out out;
   errs = nothing_put before.errs after.errs errs;
   calm = calm;
   cause = subst (λ (files : Option FileMap). CannotRead origin files before.counts after.counts) (sym told) cause;
 })
 
-pub one_starved : (command : Command) (left : Option (List ℕ)) (origin : Origin) (before after : World)
-    → after.told ≡ before.told → after.out ≡ before.out → after.errs ≡ before.errs → after.counts ≡ before.counts → Halted command left (origin ∷ []) before after NoMemory
-one_starved command left origin before after told out errs counts = starved (record {
+pub one_starved : (job : Job) (left : Option (List ℕ)) (origin : Origin) (before after : World)
+    → after.told ≡ before.told → after.out ≡ before.out → after.errs ≡ before.errs → after.counts ≡ before.counts → Halted job left (origin ∷ []) before after NoMemory
+one_starved job left origin before after told out errs counts = starved (record {
   first = [];
   later = origin ∷ [];
   is = refl;
   turns = [];
-  in_turn = no_turn command left before.told after.told told;
+  in_turn = no_turn job left before.told after.told told;
   out = nothing_put before.out after.out out;
   errs = nothing_put before.errs after.errs errs;
   counts = counts;
 })
 
-pub one_unwritten : (command : Command) (left : Option (List ℕ)) (origin : Origin) (contents : List ℕ) (t : Turn) (before after : World) (n m : ℕ) → Holds left before.told origin contents → Comes command (name_of origin) contents t
-    → after.told ≡ before.told → Appends before.out (take n t.out) after.out → Appends before.errs (take m t.errs) after.errs → ReadsAreCalm before.counts after.counts → CouldNotWrite before.counts after.counts → Halted command left (origin ∷ []) before after WriteFault
-one_unwritten command left origin contents t before after n m holds comes told out errs calm cause = unwritten (record {
+pub one_unwritten : (job : Job) (left : Option (List ℕ)) (origin : Origin) (contents : List ℕ) (t : Turn) (before after : World) (n m : ℕ) → Holds left before.told origin contents → Comes job (name_of origin) contents t
+    → after.told ≡ rewritten_by origin t.rewritten before.told → Appends before.out (take n t.out) after.out → Appends before.errs (take m t.errs) after.errs → ReadsAreCalm before.counts after.counts → CannotWrite job before.counts after.counts → Halted job left (origin ∷ []) before after WriteFault
+one_unwritten job left origin contents t before after n m holds comes told out errs calm cause = unwritten (record {
   first = origin ∷ [];
   later = [];
   is = refl;
   turns = t ∷ [];
-  in_turn = subst (λ (files : Option FileMap). InTurn command left before.told (origin ∷ []) (t ∷ []) files) (sym told) (one_turn command left before.told origin contents t holds comes);
+  in_turn = subst (λ (files : Option FileMap). InTurn job left before.told (origin ∷ []) (t ∷ []) files) (sym told) (one_turn job left before.told origin contents t holds comes);
   out_bytes = n;
   errs_bytes = m;
   out = subst (λ (piece : List ℕ). Appends before.out (take n piece) after.out) (sym (append-nil t.out)) out;
@@ -153,22 +131,39 @@ one_unwritten command left origin contents t before after n m holds comes told o
   cause = cause;
 })
 
+-- its file could not be replaced
+pub one_unreplaced : (job : Job) (left : Option (List ℕ)) (origin : Origin) (before after : World)
+    → after.told ≡ before.told → after.out ≡ before.out → after.errs ≡ before.errs → ReadsAreCalm before.counts after.counts → CannotWrite job before.counts after.counts → Halted job left (origin ∷ []) before after WriteFault
+one_unreplaced job left origin before after told out errs calm cause = unwritten (record {
+  first = [];
+  later = origin ∷ [];
+  is = refl;
+  turns = [];
+  in_turn = no_turn job left before.told after.told told;
+  out_bytes = 0;
+  errs_bytes = 0;
+  out = nothing_put before.out after.out out;
+  errs = nothing_put before.errs after.errs errs;
+  calm = calm;
+  cause = cause;
+})
+
 -- ---- some sources, and then others
 
-pub through_none : (command : Command) (left : Option (List ℕ)) (before : World) → Through command left [] before before Done
-through_none command left before = record {
+pub through_none : (job : Job) (left : Option (List ℕ)) (before : World) → Through job left [] before before Done
+through_none job left before = record {
   turns = [];
-  in_turn = no_more command left before.told;
+  in_turn = no_more job left before.told;
   status_is = refl;
   out = nothing_put before.out before.out refl;
   errs = nothing_put before.errs before.errs refl;
   counts = refl;
 }
 
-pub through_then : (command : Command) (left : Option (List ℕ)) (first later : List Origin) (before middle after : World) (s next : Status) → Through command left first before middle s → Through command left later middle after next → Through command left (first ++ later) before after (or_next s next)
-through_then command left first later before middle after s next a b = record {
+pub through_then : (job : Job) (left : Option (List ℕ)) (first later : List Origin) (before middle after : World) (s next : Status) → Through job left first before middle s → Through job left later middle after next → Through job left (first ++ later) before after (or_next s next)
+through_then job left first later before middle after s next a b = record {
   turns = a.turns ++ b.turns;
-  in_turn = in_turn_append command left before.told middle.told after.told first later a.turns b.turns a.in_turn b.in_turn;
+  in_turn = in_turn_append job left before.told middle.told after.told first later a.turns b.turns a.in_turn b.in_turn;
   status_is = ap₂ or_next a.status_is b.status_is ∙ sym (status_of-append a.turns b.turns);
   out = subst (λ (piece : List ℕ). Appends before.out piece after.out) (sym (out_of-append a.turns b.turns)) (Appends-append before.out (out_of a.turns) middle.out (out_of b.turns) after.out a.out b.out);
   errs = subst (λ (piece : List ℕ). Appends before.errs piece after.errs) (sym (errs_of-append a.turns b.turns)) (Appends-append before.errs (errs_of a.turns) middle.errs (errs_of b.turns) after.errs a.errs b.errs);
@@ -178,41 +173,41 @@ through_then command left first later before middle after s next a b = record {
 grouped : (first more a b later : List Origin) → more ≡ a ++ b → first ++ (more ++ later) ≡ (first ++ a) ++ (b ++ later)
 grouped first more a b later is = ap (λ (xs : List Origin). first ++ (xs ++ later)) is ∙ ap (λ (xs : List Origin). first ++ xs) (append_assoc a b later) ∙ sym (append_assoc first a (b ++ later))
 
-pub halted_then : (command : Command) (left : Option (List ℕ)) (first more later : List Origin) (before middle after : World) (s end : Status) → Through command left first before middle s → Halted command left more middle after end → Halted command left (first ++ (more ++ later)) before after end
-halted_then command left first more later before middle after s end a (unread u) = unread (record {
+pub halted_then : (job : Job) (left : Option (List ℕ)) (first more later : List Origin) (before middle after : World) (s end : Status) → Through job left first before middle s → Halted job left more middle after end → Halted job left (first ++ (more ++ later)) before after end
+halted_then job left first more later before middle after s end a (unread u) = unread (record {
   first = first ++ u.first;
   origin = u.origin;
   later = u.later ++ later;
   is = grouped first more u.first (u.origin ∷ u.later) later u.is;
   turns = a.turns ++ u.turns;
-  in_turn = in_turn_append command left before.told middle.told after.told first u.first a.turns u.turns a.in_turn u.in_turn;
+  in_turn = in_turn_append job left before.told middle.told after.told first u.first a.turns u.turns a.in_turn u.in_turn;
   out = subst (λ (piece : List ℕ). Appends before.out piece after.out) (sym (out_of-append a.turns u.turns)) (Appends-append before.out (out_of a.turns) middle.out (out_of u.turns) after.out a.out u.out);
   errs = subst (λ (piece : List ℕ). Appends before.errs piece after.errs) (sym (errs_of-append a.turns u.turns)) (Appends-append before.errs (errs_of a.turns) middle.errs (errs_of u.turns) after.errs a.errs u.errs);
   calm = subst (λ (k : Counts). WritesAreCalm k after.counts) a.counts u.calm;
   cause = subst (λ (k : Counts). CannotRead u.origin after.told k after.counts) a.counts u.cause;
 })
-halted_then command left first more later before middle after s end a (starved u) = starved (record {
+halted_then job left first more later before middle after s end a (starved u) = starved (record {
   first = first ++ u.first;
   later = u.later ++ later;
   is = grouped first more u.first u.later later u.is;
   turns = a.turns ++ u.turns;
-  in_turn = in_turn_append command left before.told middle.told after.told first u.first a.turns u.turns a.in_turn u.in_turn;
+  in_turn = in_turn_append job left before.told middle.told after.told first u.first a.turns u.turns a.in_turn u.in_turn;
   out = subst (λ (piece : List ℕ). Appends before.out piece after.out) (sym (out_of-append a.turns u.turns)) (Appends-append before.out (out_of a.turns) middle.out (out_of u.turns) after.out a.out u.out);
   errs = subst (λ (piece : List ℕ). Appends before.errs piece after.errs) (sym (errs_of-append a.turns u.turns)) (Appends-append before.errs (errs_of a.turns) middle.errs (errs_of u.turns) after.errs a.errs u.errs);
   counts = u.counts ∙ a.counts;
 })
-halted_then command left first more later before middle after s end a (unwritten u) = unwritten (record {
+halted_then job left first more later before middle after s end a (unwritten u) = unwritten (record {
   first = first ++ u.first;
   later = u.later ++ later;
   is = grouped first more u.first u.later later u.is;
   turns = a.turns ++ u.turns;
-  in_turn = in_turn_append command left before.told middle.told after.told first u.first a.turns u.turns a.in_turn u.in_turn;
+  in_turn = in_turn_append job left before.told middle.told after.told first u.first a.turns u.turns a.in_turn u.in_turn;
   out_bytes = length (out_of a.turns) + u.out_bytes;
   errs_bytes = length (errs_of a.turns) + u.errs_bytes;
   out = subst (λ (piece : List ℕ). Appends before.out (take (length (out_of a.turns) + u.out_bytes) piece) after.out) (sym (out_of-append a.turns u.turns)) (part_put before.out middle.out after.out (out_of a.turns) (out_of u.turns) u.out_bytes a.out u.out);
   errs = subst (λ (piece : List ℕ). Appends before.errs (take (length (errs_of a.turns) + u.errs_bytes) piece) after.errs) (sym (errs_of-append a.turns u.turns)) (part_put before.errs middle.errs after.errs (errs_of a.turns) (errs_of u.turns) u.errs_bytes a.errs u.errs);
   calm = subst (λ (k : Counts). ReadsAreCalm k after.counts) a.counts u.calm;
-  cause = subst (λ (k : Counts). CouldNotWrite k after.counts) a.counts u.cause;
+  cause = subst (λ (k : Counts). CannotWrite job k after.counts) a.counts u.cause;
 })
 
 -- ---- the files of a loop over their names
@@ -237,28 +232,28 @@ files_around names i d more =
     ∙ ap (λ (xs : List Origin). xs ++ map file (texts (drop (i + 1) names))) (files_more names i d more)
     ∙ append_assoc (map file (texts (take i names))) (file (get_or names i d).now ∷ []) (map file (texts (drop (i + 1) names)))
 
-pub through_files : (command : Command) (left : Option (List ℕ)) (names : List (Bor (List ℕ))) (i : ℕ) (d : Bor (List ℕ)) (before middle after : World) (s next whole : Status) → i < length names → whole ≡ or_next s next
-    → Through command left (map file (map (λ s. s.now) (take i names))) before middle s → Through command left (file (get_or names i d).now ∷ []) middle after next → Through command left (map file (map (λ s. s.now) (take (i + 1) names))) before after whole
-through_files command left names i d before middle after s next whole more is a b =
-    subst (λ (xs : List Origin). Through command left xs before after whole) (sym (files_more names i d more))
-    (subst (λ (w : Status). Through command left (map file (texts (take i names)) ++ file (get_or names i d).now ∷ []) before after w) (sym is)
-    (through_then command left (map file (texts (take i names))) (file (get_or names i d).now ∷ []) before middle after s next a b))
+pub through_files : (job : Job) (left : Option (List ℕ)) (names : List (Bor (List ℕ))) (i : ℕ) (d : Bor (List ℕ)) (before middle after : World) (s next whole : Status) → i < length names → whole ≡ or_next s next
+    → Through job left (map file (map (λ s. s.now) (take i names))) before middle s → Through job left (file (get_or names i d).now ∷ []) middle after next → Through job left (map file (map (λ s. s.now) (take (i + 1) names))) before after whole
+through_files job left names i d before middle after s next whole more is a b =
+    subst (λ (xs : List Origin). Through job left xs before after whole) (sym (files_more names i d more))
+    (subst (λ (w : Status). Through job left (map file (texts (take i names)) ++ file (get_or names i d).now ∷ []) before after w) (sym is)
+    (through_then job left (map file (texts (take i names))) (file (get_or names i d).now ∷ []) before middle after s next a b))
 
-pub halted_files : (command : Command) (left : Option (List ℕ)) (names : List (Bor (List ℕ))) (i : ℕ) (d : Bor (List ℕ)) (before middle after : World) (s end : Status) → i < length names
-    → Through command left (map file (map (λ s. s.now) (take i names))) before middle s → Halted command left (file (get_or names i d).now ∷ []) middle after end → Halted command left (map file (map (λ s. s.now) names)) before after end
-halted_files command left names i d before middle after s end more a b =
-    subst (λ (xs : List Origin). Halted command left xs before after end) (sym (files_around names i d more))
-    (halted_then command left (map file (texts (take i names))) (file (get_or names i d).now ∷ []) (map file (texts (drop (i + 1) names))) before middle after s end a b)
+pub halted_files : (job : Job) (left : Option (List ℕ)) (names : List (Bor (List ℕ))) (i : ℕ) (d : Bor (List ℕ)) (before middle after : World) (s end : Status) → i < length names
+    → Through job left (map file (map (λ s. s.now) (take i names))) before middle s → Halted job left (file (get_or names i d).now ∷ []) middle after end → Halted job left (map file (map (λ s. s.now) names)) before after end
+halted_files job left names i d before middle after s end more a b =
+    subst (λ (xs : List Origin). Halted job left xs before after end) (sym (files_around names i d more))
+    (halted_then job left (map file (texts (take i names))) (file (get_or names i d).now ∷ []) (map file (texts (drop (i + 1) names))) before middle after s end a b)
 
-pub through_all : (command : Command) (left : Option (List ℕ)) (names : List (Bor (List ℕ))) (i : ℕ) (before after : World) (s : Status) → length names ≤ i → Through command left (map file (map (λ s. s.now) (take i names))) before after s → Through command left (map file (map (λ s. s.now) names)) before after s
-through_all command left names i before after s most a = subst (λ (xs : List (Bor (List ℕ))). Through command left (map file (texts xs)) before after s) (take_all i names most) a
+pub through_all : (job : Job) (left : Option (List ℕ)) (names : List (Bor (List ℕ))) (i : ℕ) (before after : World) (s : Status) → length names ≤ i → Through job left (map file (map (λ s. s.now) (take i names))) before after s → Through job left (map file (map (λ s. s.now) names)) before after s
+through_all job left names i before after s most a = subst (λ (xs : List (Bor (List ℕ))). Through job left (map file (texts xs)) before after s) (take_all i names most) a
 
 -- where files are named, they are the sources
 origins_named : (names : List (Bor (List ℕ))) → (length names == 0) ≡ false → map file (texts names) ≡ origins (texts names)
 origins_named [] none = absurd cc
 origins_named (name ∷ names) some = refl
 
-pub ended_named : (command : Command) (left : Option (List ℕ)) (names items : List (Bor (List ℕ))) (before after : World) (s : Status) → names ≡ items → (length names == 0) ≡ false → Ended command left (map file (map (λ s. s.now) names)) before after s → Ended command left (origins (map (λ s. s.now) items)) before after s
-ended_named command left names items before after s is some ended =
-    subst (λ (xs : List (Bor (List ℕ))). Ended command left (origins (texts xs)) before after s) is
-    (subst (λ (xs : List Origin). Ended command left xs before after s) (origins_named names some) ended)
+pub ended_named : (job : Job) (left : Option (List ℕ)) (names items : List (Bor (List ℕ))) (before after : World) (s : Status) → names ≡ items → (length names == 0) ≡ false → Ended job left (map file (map (λ s. s.now) names)) before after s → Ended job left (origins (map (λ s. s.now) items)) before after s
+ended_named job left names items before after s is some ended =
+    subst (λ (xs : List (Bor (List ℕ))). Ended job left (origins (texts xs)) before after s) is
+    (subst (λ (xs : List Origin). Ended job left xs before after s) (origins_named names some) ended)

@@ -1,6 +1,9 @@
--- The commands: the word of each, how many files it takes, and what it accepts, writes and refuses. Our own rules.
+-- The commands and the jobs: the word of each command, how many files it takes, and what each job accepts, writes and
+-- refuses. Our own rules.
 use Rattle.std.specs.Prelude.{◌≡◌, ℕ, ◌≤◌, List, [], length, codes}
 use Rattle.luf_min.specs.Minified.{IsMinified}
+use Rattle.luf_style.specs.Styled.{IsFormatted, choices_of}
+use Rattle.luf_work.specs.Format.{IsFormatAccepted, IsFormatRefusal}
 use Rattle.luf_work.specs.Limits.{source_limit, text_limit}
 use Rattle.luf_work.specs.List.{IsListing, IsListAccepted, IsListRefusal}
 use Rattle.luf_work.specs.Minify.{IsMinifyAccepted, IsMinifyRefusal}
@@ -9,32 +12,50 @@ use Rattle.luf_work.specs.Source.{IsAccepted}
 use Rattle.luf_work.specs.declared.refusal.Refusal.{Refusal}
 use Rattle.luafmt.specs.declared.command.Command.{Command}
 use Rattle.luafmt.specs.declared.command.Command.TheVariants as command
+use Rattle.luafmt.specs.declared.command.Job.{Job}
+use Rattle.luafmt.specs.declared.command.Job.TheVariants as job
+use Rattle.luafmt.specs.declared.command.Manner.{Manner}
+use Rattle.luafmt.specs.declared.command.Manner.TheVariants as manner
 
 abbrev pub command_word : Command → List ℕ
+command_word command.Format = codes "format"
 command_word command.Minify = codes "minify"
 command_word command.Check = codes "check"
 command_word command.List = codes "list"
 
--- how many files may be named behind the word: any number, or one at most
-abbrev pub TakesFiles : Command → ℕ → Type 0
-TakesFiles command.Minify count = count ≤ 1
-TakesFiles command.Check count = Unit {0}
-TakesFiles command.List count = count ≤ 1
+-- How many files may be named behind the word, by what becomes of their texts: any number, one at most, or one at least.
+abbrev pub TakesFiles : Command → Manner → ℕ → Type 0
+TakesFiles command.Format manner.Show count = count ≤ 1
+TakesFiles command.Format manner.Compare count = 1 ≤ count
+TakesFiles command.Format manner.Rewrite count = 1 ≤ count
+TakesFiles command.Minify _ count = count ≤ 1
+TakesFiles command.Check _ count = Unit {0}
+TakesFiles command.List _ count = count ≤ 1
 
--- what a command accepts
-abbrev pub Accepts : Command → List ℕ → Type 0
-Accepts command.Minify = IsMinifyAccepted
-Accepts command.Check = IsAccepted
-Accepts command.List = IsListAccepted
+-- what becomes of the text of a job
+abbrev pub manner_of : Job → Manner
+manner_of (job.Format o m) = m
+manner_of job.Minify = manner.Show
+manner_of job.Check = manner.Show
+manner_of job.List = manner.Show
 
--- what it writes of a source that it accepts
-abbrev pub Writes : Command → List ℕ → List ℕ → Type 0
-Writes command.Minify source text = IsAccepted source × IsMinified source text × length text ≤ text_limit
-Writes command.Check source text = IsAccepted source × (text ≡ [])
-Writes command.List source text = length source ≤ source_limit × IsListing source text
+-- what a job accepts
+abbrev pub Accepts : Job → List ℕ → Type 0
+Accepts (job.Format o m) = IsFormatAccepted o
+Accepts job.Minify = IsMinifyAccepted
+Accepts job.Check = IsAccepted
+Accepts job.List = IsListAccepted
+
+-- the text of a source that it accepts
+abbrev pub Writes : Job → List ℕ → List ℕ → Type 0
+Writes (job.Format o m) source text = IsAccepted source × IsFormatted (choices_of o) source text × length text ≤ text_limit
+Writes job.Minify source text = IsAccepted source × IsMinified source text × length text ≤ text_limit
+Writes job.Check source text = IsAccepted source × (text ≡ [])
+Writes job.List source text = length source ≤ source_limit × IsListing source text
 
 -- why it refuses a source
-abbrev pub Refuses : Command → List ℕ → Refusal → Type 0
-Refuses command.Minify = IsMinifyRefusal
-Refuses command.Check = IsSourceRefusal
-Refuses command.List = IsListRefusal
+abbrev pub Refuses : Job → List ℕ → Refusal → Type 0
+Refuses (job.Format o m) = IsFormatRefusal o
+Refuses job.Minify = IsMinifyRefusal
+Refuses job.Check = IsSourceRefusal
+Refuses job.List = IsListRefusal

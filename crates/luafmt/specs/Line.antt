@@ -7,6 +7,8 @@ use Rattle.luf_work.specs.declared.refusal.Refusal.TheVariants.{TooLarge, Lexica
 use Rattle.luf_text.specs.declared.place.Place.{Place}
 use Rattle.luf_scope.specs.declared.fault.ScopeWhat.{ScopeWhat}
 use Rattle.luf_scope.specs.declared.fault.ScopeWhat.TheVariants.{UnknownAttribute, TwoClose, ConstAssign, VarargOutside, LabelTwice, NoLabel, JumpIntoScope, BreakOutside}
+use Rattle.luf_conf.specs.declared.error.ConfErr.{ConfErr}
+use Rattle.luf_conf.specs.declared.error.ConfErr.TheVariants as conf
 use Rattle.luf_undump.specs.declared.error.ChunkWhat.{ChunkWhat}
 use Rattle.luf_undump.specs.declared.error.ChunkWhat.TheVariants.{BadHeader, Short, BadSize, BadTag, Nested, Trailing}
 
@@ -64,6 +66,17 @@ refusal_line name (Scope place what) = Some (placed name place (scope_word what)
 refusal_line name (Chunk at what) = Some (at_byte name at (chunk_word what))
 refusal_line name ResultTooLarge = Some (named name (codes "ResultTooLarge"))
 refusal_line name Memory = None
+
+-- what tells that a source is not its own text
+abbrev pub differs_line : List ℕ → List ℕ
+differs_line name = named name (codes "Differs")
+
+-- What tells a refusal of a file of options: its name, and the key that is refused. Want of memory has no line.
+abbrev pub config_line : List ℕ → ConfErr → Option (List ℕ)
+config_line name conf.NotToml = Some (named name (codes "NotToml"))
+config_line name (conf.UnknownKey key) = Some (named name (codes "UnknownKey " ++ key))
+config_line name (conf.BadValue key) = Some (named name (codes "BadValue " ++ key))
+config_line name conf.Memory = None
 
 -- what tells words that mean no plan
 abbrev pub usage_line : List ℕ

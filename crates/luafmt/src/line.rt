@@ -1,7 +1,8 @@
-//! The line that tells a refusal.
-ghost use Rattle.std.specs.Prelude.{◌≡◌, string_bytes, Some, option_map, IfOk};
-ghost use Rattle.luafmt.specs.Line.{at_byte, chunk_word, line_of, named, placed, scope_word, word_of, refusal_line as spec_refusal_line};
+//! The lines that a run writes.
+ghost use Rattle.std.specs.Prelude.{◌≡◌, ◌++◌, codes, string_bytes, Some, option_map, IfOk};
+ghost use Rattle.luafmt.specs.Line.{at_byte, chunk_word, line_of, named, placed, scope_word, word_of, config_line as spec_config_line, differs_line as spec_differs_line, refusal_line as spec_refusal_line};
 
+use luf_conf::ConfErr;
 use luf_lex::LexWhat;
 use luf_memory::Memory;
 use luf_scope::ScopeWhat;
@@ -25,6 +26,46 @@ pub(crate) fn refusal_line(alloc: Global, name: &str, refusal: Refusal) -> Resul
         Refusal::ResultTooLarge => named_line(alloc, name, "ResultTooLarge"),
         Refusal::Memory => Err(Memory),
     }
+}
+
+// The line of a source that is not its own text.
+pub(crate) fn differs_line(alloc: Global, name: &str) -> Result<String, Memory>
+    ensures { IfOk result (λ line. string_bytes line ≡ line_of (spec_differs_line name.now)) }
+{
+    named_line(alloc, name, "Differs")
+}
+
+// The line of a file of options that has more bytes than it may.
+pub(crate) fn large_line(alloc: Global, name: &str) -> Result<Vec<u8>, Memory>
+    ensures { IfOk result (λ line. line.items ≡ line_of (named name.now (codes "TooLarge"))) }
+{
+    key_line(alloc, name, "TooLarge", b"")
+}
+
+// The line of a refusal of the file of options of this name, with its line end. Want of memory has none.
+pub(crate) fn config_line(alloc: Global, name: &str, refusal: &ConfErr) -> Result<Vec<u8>, Memory>
+    ensures { IfOk result (λ line.
+        option_map line_of (spec_config_line name.now refusal.now) ≡ Some line.items) }
+{
+    match refusal {
+        ConfErr::NotToml => key_line(alloc, name, "NotToml", b""),
+        ConfErr::UnknownKey(key) => key_line(alloc, name, "UnknownKey ", key.as_slice()),
+        ConfErr::BadValue(key) => key_line(alloc, name, "BadValue ", key.as_slice()),
+        ConfErr::Memory => Err(Memory),
+    }
+}
+
+// A word and a key behind the name of a file of options. A key may hold any bytes.
+fn key_line(alloc: Global, name: &str, word: &str, key: &[u8]) -> Result<Vec<u8>, Memory>
+    ensures { IfOk result (λ line. line.items ≡ line_of (named name.now (word.now ++ key.now))) }
+{
+    let mut line = Vec::new(alloc);
+    line.extend_from_slice(name.as_bytes())?;
+    line.extend_from_slice(b": ")?;
+    line.extend_from_slice(word.as_bytes())?;
+    line.extend_from_slice(key)?;
+    line.push(b'\n')?;
+    Ok(line)
 }
 
 fn named_line(alloc: Global, name: &str, word: &str) -> Result<String, Memory>

@@ -1,9 +1,10 @@
-//! A formatter and renaming minifier for Lua 5.4. So far it has three commands, `minify`,
-//! `check` and `list`, which read files or standard input and write to standard output.
+//! A formatter and renaming minifier for Lua 5.4. It has four commands, `format`, `minify`, `check` and `list`, which read
+//! files or standard input and write to standard output. `format` also compares and replaces files.
 #![tactic(auto)]
 
 mod answer;
 mod command;
+mod config;
 mod disk;
 mod line;
 mod plan;

@@ -35,8 +35,13 @@ fn files_failing(alloc: Global, call: u64) -> Result<MemFiles, Fail> {
         ("a.lua", "break"),
         ("b.lua", "@"),
         ("ok.lua", "x = 1"),
+        ("even.lua", "x = 1\n"),
         ("-", "y = 2"),
         ("--help", "z = 3"),
+        ("good.toml", "column_width = 80"),
+        ("narrow.toml", "column_width = 20"),
+        ("key.toml", "indent = 4"),
+        ("value.toml", "column_width = 0"),
         ("a b\u{e9}", "("),
     ] {
         held.insert(
@@ -54,13 +59,38 @@ fn ran(
     source: &str,
     call: u64,
 ) -> Result<(Status, MemSink, MemSink), Fail> {
+    ran_over(alloc, line, source, &mut files_failing(alloc, call)?)
+}
+
+// The same over these files.
+fn ran_over(
+    alloc: Global,
+    line: &str,
+    source: &str,
+    files: &mut MemFiles,
+) -> Result<(Status, MemSink, MemSink), Fail> {
     let words = words_of(alloc, line)?;
-    let mut files = files_failing(alloc, call)?;
     let mut input = MemSource::new(source.as_bytes().to_vec(alloc)?, 3, Vec::new(alloc));
     let mut out = MemSink::new(alloc, 100, 1, Vec::new(alloc))?;
     let mut errs = MemSink::new(alloc, 100, 4, Vec::new(alloc))?;
-    let status = run::run(alloc, &words, &mut files, &mut input, &mut out, &mut errs);
+    let status = run::run(alloc, &words, files, &mut input, &mut out, &mut errs);
     Ok((status, out, errs))
+}
+
+// The same over the files, and whether `ok.lua` then holds this text.
+fn ran_holding(
+    alloc: Global,
+    line: &str,
+    call: u64,
+    held: &str,
+) -> Result<(Status, MemSink, MemSink, bool), Fail> {
+    let mut files = files_failing(alloc, call)?;
+    let (status, out, errs) = ran_over(alloc, line, "", &mut files)?;
+    let same = match files.file("ok.lua") {
+        Some(bytes) => bytes == held.as_bytes(),
+        None => false,
+    };
+    Ok((status, out, errs, same))
 }
 
 #[test]
@@ -115,7 +145,7 @@ fn rows(rt: HostRuntime) -> Result<(), Fail> {
         ),
         ("list", "x=1", Status::Refused, "", "-:0: BadHeader\n"),
         ("", "", Status::Usage, "", "luafmt: Usage\n"),
-        ("format", "", Status::Usage, "", "luafmt: Usage\n"),
+        ("compile", "", Status::Usage, "", "luafmt: Usage\n"),
         ("check|--help", "", Status::Usage, "", "luafmt: Usage\n"),
     ] {
         let (result, out, errs) = ran(alloc, line, source, 0)?;
@@ -253,6 +283,189 @@ fn files(rt: HostRuntime) -> Result<(), Fail> {
         assert_eq!(rt; result, status, "{line} {call}");
         assert_eq!(rt; out.written(), text.as_bytes(), "{line} {call}");
         assert_eq!(rt; errs.written(), refusals.as_bytes(), "{line} {call}");
+    }
+    Ok(())
+}
+
+// What `format` makes of its words and of its file of options, before any text.
+#[test]
+fn format_words(rt: HostRuntime) -> Result<(), Fail> {
+    let alloc = rt.alloc();
+    let usage = "luafmt: Usage\n";
+    let no_token = "b.lua:1:1: NoToken\n";
+    for (line, call, status, refusals) in [
+        ("format|b.lua|b.lua", 0, Status::Usage, usage),
+        ("format|--check", 0, Status::Usage, usage),
+        ("format|--write", 0, Status::Usage, usage),
+        ("format|--check|--write|b.lua", 0, Status::Usage, usage),
+        ("format|--check|--check|b.lua", 0, Status::Usage, usage),
+        ("format|-c|b.lua", 0, Status::Usage, usage),
+        ("format|b.lua|--config", 0, Status::Usage, usage),
+        ("check|--check|b.lua", 0, Status::Usage, usage),
+        ("minify|--config|good.toml|b.lua", 0, Status::Usage, usage),
+        ("format|b.lua", 0, Status::Refused, no_token),
+        ("format|b.lua|--check", 0, Status::Refused, no_token),
+        (
+            "format|--write|b.lua|no.lua",
+            0,
+            Status::ReadFault,
+            no_token,
+        ),
+        ("format|no.lua", 0, Status::ReadFault, ""),
+        (
+            "format|--config|good.toml|b.lua",
+            0,
+            Status::Refused,
+            no_token,
+        ),
+        ("format|--config|no.toml|b.lua", 0, Status::ReadFault, ""),
+        ("format|--config|good.toml|b.lua", 1, Status::ReadFault, ""),
+        (
+            "format|--config=b.lua|b.lua",
+            0,
+            Status::Config,
+            "b.lua: NotToml\n",
+        ),
+        (
+            "format|--check|b.lua|--config|key.toml",
+            0,
+            Status::Config,
+            "key.toml: UnknownKey indent\n",
+        ),
+        (
+            "format|--config|value.toml|no.lua",
+            0,
+            Status::Config,
+            "value.toml: BadValue column_width\n",
+        ),
+    ] {
+        let (result, out, errs) = ran(alloc, line, "", call)?;
+        assert_eq!(rt; result, status, "{line} {call}");
+        assert_eq!(rt; out.written(), b"".as_slice(), "{line} {call}");
+        assert_eq!(rt; errs.written(), refusals.as_bytes(), "{line} {call}");
+    }
+    Ok(())
+}
+
+// What `format` shows, in lines of the usual width and of 20 columns.
+#[test]
+fn format_shows(rt: HostRuntime) -> Result<(), Fail> {
+    let alloc = rt.alloc();
+    for (line, source, text) in [
+        ("format", "", ""),
+        ("format", "x  =  1 -- c", "x = 1 -- c\n"),
+        ("format", "f{'a'};\n\n\n(g)()", "f({ \"a\" })\n\n;(g)()\n"),
+        ("format|even.lua", "", "x = 1\n"),
+        (
+            "format",
+            "x={--[[c]] aaaa,bbbb,cccc}",
+            "x = { --[[c]] aaaa, bbbb, cccc }\n",
+        ),
+        (
+            "format|--config|narrow.toml",
+            "x={--[[c]] aaaa,bbbb,cccc}",
+            "x = { --[[c]]\n\taaaa,\n\tbbbb,\n\tcccc,\n}\n",
+        ),
+    ] {
+        let (result, out, errs) = ran(alloc, line, source, 0)?;
+        assert_eq!(rt; result, Status::Done, "{line} {source}");
+        assert_eq!(rt; out.written(), text.as_bytes(), "{line} {source}");
+        assert_eq!(rt; errs.written(), b"".as_slice(), "{line} {source}");
+    }
+    Ok(())
+}
+
+// What becomes of files, of which `even.lua` alone is its own text, and what `ok.lua` then holds. Where the call that fails is
+// one behind the last, there is no such call.
+#[test]
+fn format_files(rt: HostRuntime) -> Result<(), Fail> {
+    let alloc = rt.alloc();
+    let no_token = "b.lua:1:1: NoToken\n";
+    let differs = "ok.lua: Differs\n";
+    let both = "b.lua:1:1: NoToken\nok.lua: Differs\n";
+    for (line, call, status, lines, held) in [
+        ("format|--check|even.lua", 2, Status::Done, "", "x = 1"),
+        (
+            "format|--check|ok.lua",
+            2,
+            Status::Differs,
+            differs,
+            "x = 1",
+        ),
+        (
+            "format|--check|b.lua|ok.lua",
+            0,
+            Status::Refused,
+            both,
+            "x = 1",
+        ),
+        (
+            "format|--check|even.lua|ok.lua",
+            0,
+            Status::Differs,
+            differs,
+            "x = 1",
+        ),
+        ("format|--write|even.lua", 2, Status::Done, "", "x = 1"),
+        ("format|--write|ok.lua", 0, Status::Done, "", "x = 1\n"),
+        (
+            "format|--write|ok.lua|ok.lua",
+            4,
+            Status::Done,
+            "",
+            "x = 1\n",
+        ),
+        (
+            "format|--write|ok.lua|b.lua",
+            2,
+            Status::WriteFault,
+            "",
+            "x = 1",
+        ),
+        (
+            "format|--write|b.lua|ok.lua",
+            0,
+            Status::Refused,
+            no_token,
+            "x = 1\n",
+        ),
+    ] {
+        let (result, out, errs, same) = ran_holding(alloc, line, call, held)?;
+        assert_eq!(rt; result, status, "{line}");
+        assert_eq!(rt; out.written(), b"".as_slice(), "{line}");
+        assert_eq!(rt; errs.written(), lines.as_bytes(), "{line}");
+        assert!(rt; same, "{line}");
+    }
+    Ok(())
+}
+
+// The limit of a file of options. The input is refused.
+#[test]
+fn large_options(rt: HostRuntime) -> Result<(), Fail> {
+    let alloc = rt.alloc();
+    let words = words_of(alloc, "format|--config|large")?;
+    for (count, status, refusal) in [
+        (65535, Status::Refused, "-:1:1: NoToken\n"),
+        (65536, Status::Config, "large: TooLarge\n"),
+    ] {
+        let mut held = BTreeMap::new(alloc);
+        held.insert(
+            String::from_str(alloc, "large")?,
+            repeated(alloc, "#", b'a', count)?,
+        )?;
+        let mut input = MemSource::new(b"@".to_vec(alloc)?, 1, Vec::new(alloc));
+        let mut out = MemSink::new(alloc, 0, 1, Vec::new(alloc))?;
+        let mut errs = MemSink::new(alloc, 100, 100, Vec::new(alloc))?;
+        let result = run::run(
+            alloc,
+            &words,
+            &mut MemFiles::new(alloc, held, Vec::new(alloc)),
+            &mut input,
+            &mut out,
+            &mut errs,
+        );
+        assert_eq!(rt; result, status, "{count}");
+        assert_eq!(rt; errs.written(), refusal.as_bytes(), "{count}");
     }
     Ok(())
 }

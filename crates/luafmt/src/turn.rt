@@ -1,29 +1,32 @@
 //! The sources of a plan, one after another.
-ghost use Rattle.std.specs.Prelude.{◌≡◌, ◌≢◌, ◌⊎◌, ◌∷◌, ℕ, List, [], map, take, Option, IfOk, IfErr, OnOk, OnErr};
+ghost use Rattle.std.specs.Prelude.{◌≡◌, ◌≢◌, ◌⊎◌, ◌∷◌, ℕ, List, [], map, take, Option, None, IfOk, IfErr, OnOk, OnErr, IsErrOf};
 ghost use Rattle.luf_io.specs.Count.{Rose};
-ghost use Rattle.luf_io.specs.Files.{FileMap};
+ghost use Rattle.luf_io.specs.Files.{CountsReplace, FileMap};
 ghost use Rattle.luf_io.specs.Sink.{Appends};
 ghost use Rattle.luafmt.specs.Counts.{counts};
-ghost use Rattle.luafmt.specs.Outcome.{input as of_input, file, or_next, origins};
+ghost use Rattle.luafmt.specs.Outcome.{input as of_input, file, or_next, origins, rewritten_by};
 ghost use Rattle.luafmt.specs.inner.Ended.{world, Through, Halted, Ended};
+ghost use Rattle.luafmt.specs.inner.Planned.{IsInRange};
 
 use crate::answer::{Answer, Halt, answer_file, answer_input};
-use crate::command::Command;
+use crate::command::Job;
 use crate::plan::Plan;
 use crate::status::Status;
-use luf_io::{Files, Sink, Source, WriteErr, write_all};
+use luf_io::{FileFault, Files, Sink, Source, WriteErr, write_all};
 use std::alloc::Global;
 
 // Takes the sources of a plan in turn, and answers how the run ends.
 pub(crate) fn take_turns<F: Files, I: Source, O: Sink, E: Sink>(
     alloc: Global,
     plan: &Plan,
+    job: Job,
     files: &mut F,
     input: &mut I,
     out: &mut O,
     errs: &mut E,
 ) -> Status
-    ensures ended { Ended plan.now.command (I.left input.old) (origins (map (λ s. s.now) plan.now.files.items))
+    requires range { IsInRange job }
+    ensures ended { Ended job (I.left input.old) (origins (map (λ s. s.now) plan.now.files.items))
         (world (F.told files.old) (O.written out.old) (E.written errs.old) (counts (I.faults input.old) (F.fetch_faults files.old) (F.replace_faults files.old) (O.faults out.old) (E.faults errs.old)))
         (world (F.told files.new) (O.written out.new) (E.written errs.new) (counts (I.faults input.new) (F.fetch_faults files.new) (F.replace_faults files.new) (O.faults out.new) (E.faults errs.new)))
         result }
@@ -32,25 +35,26 @@ pub(crate) fn take_turns<F: Files, I: Source, O: Sink, E: Sink>(
 {
     let names = plan.files.as_slice();
     if names.is_empty() {
-        return take_input(alloc, plan.command, input, out, errs);
+        return take_input(alloc, job, input, out, errs);
     }
-    take_files(alloc, plan.command, names, files, out, errs)
+    take_files(alloc, job, names, files, out, errs)
 }
 
 // The turn of the input alone. Files are not touched: whatever they tell and count, stays.
 fn take_input<I: Source, O: Sink, E: Sink>(
     alloc: Global,
-    command: Command,
+    job: Job,
     input: &mut I,
     out: &mut O,
     errs: &mut E,
 ) -> Status
-    ensures { (told : Option FileMap) (fetches replaces : ℕ) → Ended command (I.left input.old) (of_input ∷ [])
+    requires range { IsInRange job }
+    ensures { (told : Option FileMap) (fetches replaces : ℕ) → Ended job (I.left input.old) (of_input ∷ [])
         (world told (O.written out.old) (E.written errs.old) (counts (I.faults input.old) fetches replaces (O.faults out.old) (E.faults errs.old)))
         (world told (O.written out.new) (E.written errs.new) (counts (I.faults input.new) fetches replaces (O.faults out.new) (E.faults errs.new)))
         result }
 {
-    match answer_input(alloc, command, input) {
+    match answer_input(alloc, job, input) {
         Ok(answer) => match write(&answer, out, errs) {
             Ok(()) => answer.status,
             Err(WriteErr::Fault) => Status::WriteFault,
@@ -63,20 +67,21 @@ fn take_input<I: Source, O: Sink, E: Sink>(
 // The turns of files.
 fn take_files<F: Files, O: Sink, E: Sink>(
     alloc: Global,
-    command: Command,
+    job: Job,
     names: &[&str],
     files: &mut F,
     out: &mut O,
     errs: &mut E,
 ) -> Status
-    ensures { (left : Option (List ℕ)) (faults : ℕ) → Ended command left (map file (map (λ s. s.now) names.now))
+    requires range { IsInRange job }
+    ensures { (left : Option (List ℕ)) (faults : ℕ) → Ended job left (map file (map (λ s. s.now) names.now))
         (world (F.told files.old) (O.written out.old) (E.written errs.old) (counts faults (F.fetch_faults files.old) (F.replace_faults files.old) (O.faults out.old) (E.faults errs.old)))
         (world (F.told files.new) (O.written out.new) (E.written errs.new) (counts faults (F.fetch_faults files.new) (F.replace_faults files.new) (O.faults out.new) (E.faults errs.new)))
         result }
 {
     let mut status = Status::Done;
     for name in names {
-        match take_file(alloc, command, name, files, out, errs) {
+        match take_file(alloc, job, name, files, out, errs) {
             Ok(next) => status = status.or_next(next),
             Err(end) => return end,
         }
@@ -87,28 +92,53 @@ fn take_files<F: Files, O: Sink, E: Sink>(
 // The turn of one file. On `Err` the run is to end at once, with this status.
 fn take_file<F: Files, O: Sink, E: Sink>(
     alloc: Global,
-    command: Command,
+    job: Job,
     name: &str,
     files: &mut F,
     out: &mut O,
     errs: &mut E,
 ) -> Result<Status, Status>
-    ensures ok { IfOk result (λ status. (left : Option (List ℕ)) (faults : ℕ) → Through command left (file name.now ∷ [])
+    requires range { IsInRange job }
+    ensures ok { IfOk result (λ status. (left : Option (List ℕ)) (faults : ℕ) → Through job left (file name.now ∷ [])
         (world (F.told files.old) (O.written out.old) (E.written errs.old) (counts faults (F.fetch_faults files.old) (F.replace_faults files.old) (O.faults out.old) (E.faults errs.old)))
         (world (F.told files.new) (O.written out.new) (E.written errs.new) (counts faults (F.fetch_faults files.new) (F.replace_faults files.new) (O.faults out.new) (E.faults errs.new)))
         status) }
-    ensures err { IfErr result (λ status. (left : Option (List ℕ)) (faults : ℕ) → Halted command left (file name.now ∷ [])
+    ensures err { IfErr result (λ status. (left : Option (List ℕ)) (faults : ℕ) → Halted job left (file name.now ∷ [])
         (world (F.told files.old) (O.written out.old) (E.written errs.old) (counts faults (F.fetch_faults files.old) (F.replace_faults files.old) (O.faults out.old) (E.faults errs.old)))
         (world (F.told files.new) (O.written out.new) (E.written errs.new) (counts faults (F.fetch_faults files.new) (F.replace_faults files.new) (O.faults out.new) (E.faults errs.new)))
         status) }
 {
-    match answer_file(alloc, command, name, files) {
-        Ok(answer) => match write(&answer, out, errs) {
+    let answer = match answer_file(alloc, job, name, files) {
+        Ok(answer) => answer,
+        Err(Halt::Fault) => return Err(Status::ReadFault),
+        Err(Halt::NoMemory) => return Err(Status::NoMemory),
+    };
+    match rewrite(alloc, name, &answer, files) {
+        Ok(()) => match write(&answer, out, errs) {
             Ok(()) => Ok(answer.status),
             Err(WriteErr::Fault) => Err(Status::WriteFault),
         },
-        Err(Halt::Fault) => Err(Status::ReadFault),
-        Err(Halt::NoMemory) => Err(Status::NoMemory),
+        Err(FileFault::Failed) => Err(Status::WriteFault),
+        Err(FileFault::Memory) => Err(Status::NoMemory),
+    }
+}
+
+// Gives a file what it is to hold, where that is to change.
+fn rewrite<F: Files>(
+    alloc: Global,
+    name: &str,
+    answer: &Answer,
+    files: &mut F,
+) -> Result<(), FileFault>
+    ensures ok { OnOk result (F.told files.new ≡ rewritten_by (file name.now) answer.now.rewritten (F.told files.old)) }
+    ensures err { OnErr result (F.told files.new ≡ F.told files.old) }
+    ensures failed { IsErrOf result FileFault.Failed → answer.now.rewritten ≢ None }
+    ensures counted { CountsReplace result (F.replace_faults files.old) (F.replace_faults files.new) }
+    ensures other { F.fetch_faults files.new ≡ F.fetch_faults files.old }
+{
+    match &answer.rewritten {
+        Some(bytes) => files.replace(alloc, name, bytes),
+        None => Ok(()),
     }
 }
 

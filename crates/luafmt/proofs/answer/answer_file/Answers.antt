@@ -8,5 +8,5 @@ use Rattle.luafmt.proofs.answer.answer_file.Goals as goal
 pub returns-in-Ok-false-clause-comes : goal.returns-in-Ok-false-clause-comes
 returns-in-Ok-false-clause-comes g c =
     let long : IsTooLong (g.F.Files.told c.args.files.now) c.args.name.now source_limit = search rules in
-    let found = too_long_file (g.F.Files.told c.args.files.now) c.args.name.now long in
-    (found.0, found.1, refused_comes c.args.command c.args.name.now found.0 _ TooLarge (λ _. too_large c.args.command found.0 found.2) c.in_ok-refused-in-Ok-false.ensures)
+    let found = too_long_file (g.F.Files.told c.args.files.now) c.args.name.now source_limit long in
+    (found.0, found.1, refused_comes c.args.job c.args.name.now found.0 _ TooLarge (λ _. too_large c.args.job found.0 found.2) c.in_ok-refused-in-Ok-false.ensures)
