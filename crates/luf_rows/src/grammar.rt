@@ -62,7 +62,7 @@ fn accepted(rt: HostRuntime) -> Result<(), Fail> {
 
 #[test]
 fn refusals(rt: HostRuntime) -> Result<(), Fail> {
-    let sources: [(&[u8], u32); 14] = [
+    let sources: [(&[u8], u32); 55] = [
         (b"x = = 1", 2),
         (b"x", 1),
         (b"(f)", 3),
@@ -77,6 +77,47 @@ fn refusals(rt: HostRuntime) -> Result<(), Fail> {
         (b"do", 1),
         (b"end", 0),
         (b"f(a,)", 4),
+        (b"local", 1),
+        (b"local 1", 1),
+        (b"local x <", 3),
+        (b"local x < 1", 3),
+        (b"for", 1),
+        (b"for a", 2),
+        (b"for a b", 2),
+        (b"for a, b =", 4),
+        (b"for a, b = 1 do end", 4),
+        (b"a.b:c =", 5),
+        (b"a.b:c = 1", 5),
+        (b"a, f() =", 5),
+        (b"function", 1),
+        (b"function a.b:c.d() end", 6),
+        (b"::x", 2),
+        (b":: 1", 1),
+        (b"goto", 1),
+        (b"if a", 2),
+        (b"if a b", 2),
+        (b"return 1 x", 2),
+        (b"f(", 2),
+        (b"f( =", 2),
+        (b"x = {a=", 5),
+        (b"x = {a= }", 5),
+        (b"x = {[1]", 6),
+        (b"x = {[1] 2}", 6),
+        (b"a.", 2),
+        (b"a. 1", 2),
+        (b"a:b", 3),
+        (b"a:b 1", 3),
+        (b"x y", 1),
+        (b"(a) =", 3),
+        (b"(a) = ;", 3),
+        (b"x = -", 3),
+        (b"x = - ;", 3),
+        (b"x = 2^", 4),
+        (b"x = 2^ ;", 4),
+        (b"while a", 2),
+        (b"repeat x() end", 4),
+        (b"function f(a,) end", 5),
+        (b"local function 1", 2),
     ];
     for (source, at) in sources.iter() {
         assert_eq!(rt;
@@ -97,6 +138,20 @@ fn levels(rt: HostRuntime) -> Result<(), Fail> {
     assert_eq!(rt;
         refused(&rt, rt.alloc(), deeper.as_slice())?,
         Some(ParseErr::TooDeep { token: 201 })
+    );
+    // What comes first is told: a level too many at the last token, or before a wrong token, or a wrong token before it.
+    let last = nested(rt.alloc(), b"return ", b"(", b"", b"", 201)?;
+    let wrong_behind = nested(rt.alloc(), b"return ", b"(", b"= =", b"", 201)?;
+    for source in [last.as_slice(), wrong_behind.as_slice()].iter() {
+        assert_eq!(rt;
+            refused(&rt, rt.alloc(), source)?,
+            Some(ParseErr::TooDeep { token: 201 })
+        );
+    }
+    let wrong_before = nested(rt.alloc(), b"return return ", b"(", b"1", b")", 201)?;
+    assert_eq!(rt;
+        refused(&rt, rt.alloc(), wrong_before.as_slice())?,
+        Some(ParseErr::Syntax { token: 1 })
     );
     Ok(())
 }
