@@ -94,4 +94,5 @@ def main():
                 before = print_row(shape, source, source, before)
 
 
-main()
+if __name__ == "__main__":
+    main()

@@ -9,9 +9,10 @@ MIB = 1 << 20
 SIZES = [MIB // 2, MIB, 2 * MIB, 4 * MIB]
 RUNS = 7
 TIME = "/usr/bin/time"
-LUAFMT = [sys.argv[1], "minify"]
+# the program and its job, and what stands behind it
+LUAFMT = [sys.argv[1], *(sys.argv[2:] or ["minify"])]
 LUAC = ["luac5.4", "-p", "-"] if shutil.which("luac5.4") else None
-ROW = "{:>8} {:>8} {:>9} {:>9} {:>9} {:>7} {:>7} {:>7} {:>7}".format
+ROW = "{:>8} {:>9} {:>9} {:>9} {:>9} {:>7} {:>7} {:>7} {:>7}".format
 
 
 def seconds(command, source, status_wanted=0):
@@ -43,13 +44,13 @@ def cell(value, digits=1):
     return "-" if value is None else f"{value:.{digits}f}"
 
 
-def print_head():
+def print_head(luac="<= 2.5", memory="<= 100"):
     if not LUAC:
         print("luac5.4 is not installed: its columns are left out")
     if not os.path.exists(TIME):
         print(f"{TIME} is not installed: the memory column is left out")
     print(ROW("bytes", "shape", "luafmt s", "luac s", "cat s", "/luac", "/cat", "growth", "memory"))
-    print(ROW("", "", "", "", "", "<= 2.5", "", "2", "<= 100"))
+    print(ROW("", "", "", "", "", luac, "", "2", memory))
 
 
 def print_row(shape, source, for_luac, before, status_wanted=0):

@@ -1,11 +1,16 @@
-"""`luafmt minify` on the Lua files of a folder, beside luac5.4.
+"""`luafmt minify` or `luafmt format` on the Lua files of a folder, beside luac5.4.
+
+    real.py LUAFMT FOLDER JOB [WORDS..]
+
+JOB is `minify` or `format`; WORDS stand behind it, as `--config narrow.toml`.
 
 - luafmt takes a file exactly where luac5.4 does. Told apart are: where luac refuses for a limit of its own, where luafmt does,
   and compiled chunks, which are no Lua.
-- The minified text of a file is compiled to the same stripped chunk, without lines (chunk.py). Where luac refuses the file
-  for a limit of its own, it refuses its minified text for the same.
-- A minified text is never longer than the file, but for the line feed of a `#` line.
-- How often a minified text is its own minified text is counted: that is no promise.
+- The text of a file is compiled to the same stripped chunk, without lines (chunk.py). Where luac refuses the file for a limit of
+  its own, it refuses its text for the same.
+- A minified text is never longer than the file, but for the line feed of a `#` line. A formatted text has the comments of the
+  file in their order, short ones without the blanks at their end.
+- How often a text is its own text is counted: of a minified text that is no promise.
 """
 import collections
 import concurrent.futures
@@ -16,7 +21,8 @@ import sys
 
 from chunk import without_lines
 
-LUAFMT = [sys.argv[1], "minify"]
+JOB = sys.argv[3]
+LUAFMT = [sys.argv[1], *sys.argv[3:]]
 LUAC = ["luac5.4", "-s", "-o", "-", "-"]
 OWN_LIMITS = ("TooLarge", "TooDeep", "ResultTooLarge")
 # What luac refuses by its rules on names and jumps, and by its own limits, by its messages in lparser.c, lcode.c, ldo.c
@@ -27,6 +33,12 @@ SCOPE = re.compile(
 )
 LIMIT = re.compile("too many |C stack overflow|chunk has too many|control structure too long|constants? overflow")
 RULE = "{:<22} {}".format
+# A comment, or a string, which may hold what looks like one.
+COMMENT = re.compile(
+    rb"(?P<long>--\[(?P<a>=*)\[.*?\](?P=a)\])|(?P<short>--[^\r\n]*)"
+    rb"|\[(?P<b>=*)\[.*?\](?P=b)\]|\"(?:\\.|[^\"\\])*\"|'(?:\\.|[^'\\])*'",
+    re.DOTALL,
+)
 
 
 def run(command, text):
@@ -39,17 +51,34 @@ def cause(message):
     return re.sub(r"(at )?line \d+", "line", re.sub(r"^stdin:\d+: ", "", message))
 
 
-def compare_refusal(luac, minified):
+def compare_refusal(luac, made):
     """luac refuses, and luafmt has this answer."""
     why = cause(luac.stderr)
-    if minified.returncode == 3:
+    if made.returncode == 3:
         return "refused by both", why
     if not LIMIT.search(why):
-        return "DIFFERENCE", f"luac: {why}; luafmt: status {minified.returncode}"
-    again = cause(run(LUAC, minified.stdout).stderr)
+        return "DIFFERENCE", f"luac: {why}; luafmt: status {made.returncode}"
+    again = cause(run(LUAC, made.stdout).stderr)
     if again != why:
-        return "DIFFERENCE", f"luac: {why}; of the minified text: {again}"
+        return "DIFFERENCE", f"luac: {why}; of the text: {again}"
     return "luac alone refuses", why
+
+
+def comments(text):
+    """The comments of a text behind its `#` line, in order."""
+    text = text.removeprefix(b"\xef\xbb\xbf")
+    if text.startswith(b"#"):
+        text = text[re.match(rb"[^\r\n]*", text).end():]
+    found = (match.group("long") or (match.group("short") or b"").rstrip(b" \t\v\f") for match in COMMENT.finditer(text))
+    return [comment for comment in found if comment]
+
+
+def wrong_text(text, made):
+    """What is wrong with a text that was made of a file, by itself."""
+    if JOB == "minify":
+        longest = len(text) + text.startswith((b"#", b"\xef\xbb\xbf#"))
+        return "the minified text is longer" if len(made) > longest else None
+    return "the formatted text has other comments" if comments(text) != comments(made) else None
 
 
 def compare(path):
@@ -58,24 +87,25 @@ def compare(path):
         text = file.read()
     if text.startswith(b"\x1bLua"):
         return "compiled chunk", ""
-    luac, minified = run(LUAC, text), run(LUAFMT, text)
-    if minified.returncode not in (0, 3):
-        return "DIFFERENCE", f"luafmt: status {minified.returncode}"
-    if len(minified.stdout) > len(text) + text.startswith((b"#", b"\xef\xbb\xbf#")):
-        return "DIFFERENCE", "the minified text is longer"
+    luac, made = run(LUAC, text), run(LUAFMT, text)
+    if made.returncode not in (0, 3):
+        return "DIFFERENCE", f"luafmt: status {made.returncode}"
     if luac.returncode != 0:
-        return compare_refusal(luac, minified)
-    if minified.returncode == 3:
-        refusal = minified.stderr.decode().strip()
+        return compare_refusal(luac, made)
+    if made.returncode == 3:
+        refusal = made.stderr.decode().strip()
         limit = refusal.endswith(OWN_LIMITS)
         return "luafmt alone refuses" if limit else "DIFFERENCE", f"luac takes it; luafmt: {refusal}"
-    compiled = run(LUAC, minified.stdout)
+    wrong = wrong_text(text, made.stdout)
+    if wrong:
+        return "DIFFERENCE", wrong
+    compiled = run(LUAC, made.stdout)
     if compiled.returncode != 0:
-        return "DIFFERENCE", f"luac on the minified text: {cause(compiled.stderr)}"
+        return "DIFFERENCE", f"luac on the text: {cause(compiled.stderr)}"
     if without_lines(luac.stdout) != without_lines(compiled.stdout):
-        return "DIFFERENCE", "the minified text is compiled to another chunk"
-    again = run(LUAFMT, minified.stdout).stdout == minified.stdout
-    return "accepted", f"{len(text)} {len(minified.stdout)} {again:d}"
+        return "DIFFERENCE", "the text is compiled to another chunk"
+    again = run(LUAFMT, made.stdout).stdout == made.stdout
+    return "accepted", f"{len(text)} {len(made.stdout)} {again:d}"
 
 
 def main():
@@ -90,7 +120,7 @@ def main():
                 before, after, once = before + int(sizes[0]), after + int(sizes[1]), once + int(sizes[2])
             elif kind != "refused by both":
                 print(RULE(kind, f"{os.path.relpath(path, folder)}: {text}"), flush=True)
-    print(f"{before} bytes accepted, minified to {after}; {once} of the texts are their own minified texts")
+    print(f"{before} bytes accepted, to {after}; {once} of the texts are their own texts")
     print(
         f"{len(paths)} files: {count['accepted']} accepted, {count['refused by both']} refused by both, "
         f"{count['luac alone refuses']} refused by luac alone for no cause of grammar, "

@@ -19,4 +19,8 @@ if [ -z "$(ls -A "$corpus")" ]; then
 fi
 luafmt="${1:-../crates/luafmt/out/luafmt}"
 [ $# -gt 0 ] || (cd ../crates/luafmt && rt run -- minify </dev/null >/dev/null)
-PYTHONDONTWRITEBYTECODE=1 python3 real.py "$luafmt" "$corpus"
+export PYTHONDONTWRITEBYTECODE=1
+python3 real.py "$luafmt" "$corpus" minify
+python3 real.py "$luafmt" "$corpus" format
+printf "column_width = 20\n" >"$corpus.toml"
+python3 real.py "$luafmt" "$corpus" format --config "$corpus.toml"
