@@ -1,23 +1,14 @@
 -- The rows of a document, as far as they are added.
-use Rattle.std.proofs.Common.{◌≡◌, ℕ, ◌+◌, ◌≤◌, List, [], ◌∷◌, ◌++◌, length, map, reverse, sym, ap, ◌∙◌, subst, arith, append-nil, append_assoc, length-append}
+use Rattle.std.proofs.Common.{◌≡◌, ℕ, ◌+◌, ◌≤◌, List, [], ◌∷◌, ◌++◌, length, sym, ap, ◌∙◌, subst, arith, append-nil, append_assoc, length-append}
 use Rattle.std.proofs.Math.ListN.{set, get_or}
 use Rattle.std.proofs.Math.Seq.{set-append_seam, get_or-append_seam}
-use Rattle.std.proofs.lemmas.List.{reverse-append}
-use Rattle.luf_doc.specs.declared.doc.Doc.{Doc}
 use Rattle.luf_doc.specs.declared.size.Size.{Size}
 use Rattle.luf_doc.specs.declared.table.Node.{Node}
-use Rattle.luf_doc.specs.Document.{Document, Documents, nothing, also, documents, document_of}
+use Rattle.luf_doc.specs.Document.{Document, Documents, nothing, also}
 use Rattle.luf_doc.specs.Table.{node_count, all_count, places, inside, row_of, rows_from, all_rows, kind_of}
 use Rattle.luf_doc.specs.inner.Sizes.{size_of, own_size, then}
 use Rattle.luf_doc.proofs.SizeLoop.{Counts, counts_own, counts_more, counts_whole}
 use Rattle.luf_doc.proofs.TableLaws.{rows_count, rows_inside, count_inside}
-
--- what is still to be added, the last document first
-abbrev pub left_of : List Doc → Documents
-left_of left = documents (map document_of (reverse left))
-
-pub last_left : (left rest : List Doc) (next : Doc) → left ≡ rest ++ next ∷ [] → left_of left ≡ also (document_of next) (left_of rest)
-last_left left rest next is = ap left_of is ∙ ap (λ ds. documents (map document_of ds)) (reverse-append rest (next ∷ []))
 
 -- Of document `d`, whose row is row `at`, the rows before it and the row that keeps its place are `opened`; `rows` are there
 -- now, `n` in number; `children` and `size` are those of what has been added, and `left` is still to be added.

@@ -1,7 +1,8 @@
 // A document as one flat table.
-ghost use Rattle.std.specs.Prelude.{◌≡◌, ℕ, ◌+◌, ◌≤◌, ◌<◌, ◌^◌, [], ◌∷◌, ◌++◌, length, map, reverse, slice_get, slice_set, vec_len, IfOk, OnOk, OnErr};
-ghost use Rattle.luf_doc.specs.Document.{documents, document_of};
+ghost use Rattle.std.specs.Prelude.{◌≡◌, ℕ, ◌+◌, ◌≤◌, ◌<◌, ◌^◌, [], ◌∷◌, ◌++◌, length, reverse, take, slice_get, slice_set, vec_len, IfOk, OnOk, OnErr, MatchOption};
+ghost use Rattle.luf_doc.specs.Document.{document_of};
 ghost use Rattle.luf_doc.specs.Table.{node_count, inside, kind_of, rows_of, rows_from};
+ghost use Rattle.luf_doc.specs.inner.Above.{above};
 ghost use Rattle.luf_doc.specs.inner.Sizes.{size_of};
 
 use crate::size::Size;
@@ -68,7 +69,8 @@ impl DocTable {
         ensures { IfOk result (λ t. t ≡ d) }
     {
         let mut rows = Vec::new(alloc);
-        add(alloc, d, &mut rows)?;
+        let mut left = Vec::new(alloc);
+        add(alloc, d, &mut rows, &mut left)?;
         Ok(DocTable { rows })
     }
 
@@ -90,15 +92,17 @@ impl DocTable {
     }
 }
 
-/// Appends the rows of a document, and tells its size.
-fn add(alloc: Global, doc: Doc, rows: &mut Vec<Node>) -> Result<Size, Memory>
+/// Appends the rows of a document, and tells its size. What is still to be added of the documents around it is `left`.
+fn add(alloc: Global, doc: Doc, rows: &mut Vec<Node>, left: &mut Vec<Doc>) -> Result<Size, Memory>
     requires { vec_len rows.old + node_count (document_of doc) < 2 ^ 32 }
     ensures size { IfOk result (λ size. size ≡ size_of (document_of doc)) }
     ensures rows { OnOk result (rows.new.items ≡ rows.old.items ++ rows_from (vec_len rows.old) (document_of doc)) }
+    ensures left { OnOk result (left.new.items ≡ left.old.items) }
 {
     let at = rows.len();
+    let around = left.len();
     let mut size = Size::of_own(&doc);
-    let (kind, mut left) = opened(alloc, doc)?;
+    let kind = opened(doc, left)?;
     rows.push(Node {
         kind,
         children: Items::new(alloc),
@@ -106,10 +110,10 @@ fn add(alloc: Global, doc: Doc, rows: &mut Vec<Node>) -> Result<Size, Memory>
         ended: false,
         forced: false,
     })?;
-    let mut children = Vec::new(alloc);
-    while let Some(child) = left.pop() {
+    let mut children = Vec::with_capacity(alloc, left.len() - around)?;
+    while let Some(child) = next_above(left, around) {
         children.push(rows.len() as u32)?;
-        let more = add(alloc, child, rows)?;
+        let more = add(alloc, child, rows, left)?;
         size = size.then(more);
     }
     let row = &mut rows[at];
@@ -120,29 +124,48 @@ fn add(alloc: Global, doc: Doc, rows: &mut Vec<Node>) -> Result<Size, Memory>
     Ok(size)
 }
 
-/// What a document is, and the documents directly inside it, the last one first.
-fn opened(alloc: Global, doc: Doc) -> Result<(NodeKind, Vec<Doc>), Memory>
-    ensures kind { IfOk result (λ r. r.0 ≡ kind_of (document_of doc)) }
-    ensures inside { IfOk result (λ r. documents (map document_of (reverse r.1.items)) ≡ inside (document_of doc)) }
+/// What a document is. The documents directly inside it are put on `left`, the last one first.
+fn opened(doc: Doc, left: &mut Vec<Doc>) -> Result<NodeKind, Memory>
+    ensures kind { IfOk result (λ kind. kind ≡ kind_of (document_of doc)) }
+    ensures around { OnOk result (take (vec_len left.old) left.new.items ≡ left.old.items) }
+    ensures inside { OnOk result (above (vec_len left.old) left.new.items ≡ inside (document_of doc)) }
 {
     match doc {
-        Doc::Text(bytes) => Ok((NodeKind::Text(bytes), Vec::new(alloc))),
-        Doc::Gap(gap) => Ok((NodeKind::Gap(gap), Vec::new(alloc))),
-        Doc::Trail => Ok((NodeKind::Trail, Vec::new(alloc))),
-        Doc::Nest(inner) => Ok((NodeKind::Nest, vec![in alloc; inner.into_inner()]?)),
-        Doc::Group(inner) => Ok((NodeKind::Group, vec![in alloc; inner.into_inner()]?)),
-        Doc::Seq(items) => Ok((NodeKind::Seq, reversed(alloc, items)?)),
+        Doc::Text(bytes) => Ok(NodeKind::Text(bytes)),
+        Doc::Gap(gap) => Ok(NodeKind::Gap(gap)),
+        Doc::Trail => Ok(NodeKind::Trail),
+        Doc::Nest(inner) => {
+            left.push(inner.into_inner())?;
+            Ok(NodeKind::Nest)
+        }
+        Doc::Group(inner) => {
+            left.push(inner.into_inner())?;
+            Ok(NodeKind::Group)
+        }
+        Doc::Seq(items) => {
+            push_reversed(items, left)?;
+            Ok(NodeKind::Seq)
+        }
     }
 }
 
-/// The items, the last one first.
-fn reversed(alloc: Global, items: Items<Doc>) -> Result<Vec<Doc>, Memory>
-    ensures { IfOk result (λ r. reverse r.items ≡ items) }
+/// Puts the items on `left`, the last one first.
+fn push_reversed(items: Items<Doc>, left: &mut Vec<Doc>) -> Result<(), Memory>
+    ensures { OnOk result (left.new.items ≡ left.old.items ++ reverse items) }
 {
     let mut items = items;
-    let mut left = Vec::with_capacity(alloc, items.len())?;
     while let Some(item) = items.pop() {
         left.push(item)?;
     }
-    Ok(left)
+    Ok(())
+}
+
+/// Takes the last of `left`, where there are more than `around`.
+fn next_above(left: &mut Vec<Doc>, around: usize) -> Option<Doc>
+    ensures { MatchOption result ((length left.old.items ≤ around) × (left.new.items ≡ left.old.items)) (λ next. (around < length left.old.items) × (left.old.items ≡ left.new.items ++ next ∷ [])) }
+{
+    if left.len() <= around {
+        return None;
+    }
+    left.pop()
 }

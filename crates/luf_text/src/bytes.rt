@@ -1,13 +1,17 @@
 ghost use Rattle.std.specs.Prelude.{◌≡◌, List, ℕ, IfOk};
 
 use luf_memory::Memory;
+use smallvec::SmallVec;
 use std::alloc::Global;
 use std::marker::Model;
 
-/// A list of bytes that owns its memory. It need not be UTF-8.
+/// How many bytes a list keeps in itself: most tokens have no more.
+const SHORT: usize = 16;
+
+/// A list of bytes that owns its memory. It need not be UTF-8. A copy of at most 16 bytes takes no memory of its own.
 #[derive(Debug, Drop)]
 pub struct Bytes {
-    bytes: Vec<u8>,
+    bytes: SmallVec<u8, SHORT>,
 }
 
 impl Model for Bytes {
@@ -22,7 +26,7 @@ impl Bytes {
         ensures { IfOk result (λ copied. copied ≡ b.now) }
     {
         Ok(Bytes {
-            bytes: Vec::from_slice(alloc, b)?,
+            bytes: SmallVec::from_slice(alloc, b)?,
         })
     }
 
@@ -30,7 +34,9 @@ impl Bytes {
     pub fn from_vec(bytes: Vec<u8>) -> Bytes
         ensures { result ≡ bytes.items }
     {
-        Bytes { bytes }
+        Bytes {
+            bytes: SmallVec::from_vec(bytes),
+        }
     }
 
     /// The bytes.
