@@ -131,8 +131,8 @@ steps_further h t ok =
     let o = ok.ends.forward in
     omega arith
 
-pub count_further : {toks : List Tok} {from first second after opener inside to left levels levels2 levels3 levels4 : ℕ} {t u : Tok} {D D2 D3 D4 : Type 0} → Found toks (from + 1) first left levels D → IsToken toks first t second → Found toks (second + 1) after left levels2 D2
-    → Found toks after opener left levels3 D3 → IsToken toks opener u inside → Found toks (inside + 1) to left levels4 D4 → from ≤ to
+pub count_further : {toks : List Tok} {from first second after opener inside to left levels limit_levels step_levels body_levels : ℕ} {t u : Tok} {Start Limit Stride Body : Type 0} → Found toks (from + 1) first left levels Start → IsToken toks first t second → Found toks (second + 1) after left limit_levels Limit
+    → Found toks after opener left step_levels Stride → IsToken toks opener u inside → Found toks (inside + 1) to left body_levels Body → from ≤ to
 count_further a t b c u d =
     let f = a.ends.forward in
     let g = b.ends.forward in

@@ -10,7 +10,7 @@ use Rattle.luf_lex.specs.declared.token.Sign.TheVariants as sign
 use Rattle.luf_tree.specs.Agree.{AgreeBefore, IsLocal}
 use Rattle.luf_tree.specs.Entry.{Entry, entered, greatest_level}
 use Rattle.luf_tree.specs.Grammar.{At, IsToken, NoParenFollows}
-use Rattle.luf_descent.proofs.EntryLevels.{Reaches}
+use Rattle.luf_tree.proofs.EntryLevels.{Reaches}
 use Rattle.luf_descent.specs.Stops.{Kind, wrong, deep, behind, Stand, stand_none, stand_more, opens_token, opens, Within}
 
 -- lists that agree

@@ -25,16 +25,16 @@ pub record Behind {A : Type 0} (kind : Kind) (toks l : List Tok) (j t inner m k 
 
 -- a part that stops behind others
 pub stops_after : {A B C F : Type 0} {toks : List Tok} {i j left inner : ℕ} {paren : Bool} {D : List Tok → ℕ → A → Type 0} {E : ℕ → A → List Entry} {P : List Tok → ℕ → B → Type 0} {e : ParseErr}
-    {D2 : List Tok → ℕ → C → Type 0} {E2 : ℕ → C → List Entry} {P2 : List Tok → ℕ → F → Type 0} (rest : List Tok) → opens rest ≡ false → i ≤ j → Stops toks j inner false D E P e
-    → ((kind : Kind) (t : ℕ) (l : List Tok) (m k : ℕ) → j ≤ behind kind t → Behind kind toks l j t inner m k rest (D l m) E → Made kind t left (D2 l k) E2)
-    → ((t : ℕ) (l : List Tok) → j ≤ t → AgreeBefore toks l (t + 1) → (n : ℕ) (y : F) → P2 l n y → Seen (P l))
-    → Stops toks i left paren D2 E2 P2 e
-stops_after {A} {B} {C} {F} {toks} {i} {j} {left} {inner} {paren} {D} {E} {P} {e} {D2} {E2} {P2} rest closed low h build form = record {
+    {Whole : List Tok → ℕ → C → Type 0} {Enters : ℕ → C → List Entry} {Wanted : List Tok → ℕ → F → Type 0} (rest : List Tok) → opens rest ≡ false → i ≤ j → Stops toks j inner false D E P e
+    → ((kind : Kind) (t : ℕ) (l : List Tok) (m k : ℕ) → j ≤ behind kind t → Behind kind toks l j t inner m k rest (D l m) E → Made kind t left (Whole l k) Enters)
+    → ((t : ℕ) (l : List Tok) → j ≤ t → AgreeBefore toks l (t + 1) → (n : ℕ) (y : F) → Wanted l n y → Seen (P l))
+    → Stops toks i left paren Whole Enters Wanted e
+stops_after {A} {B} {C} {F} {toks} {i} {j} {left} {inner} {paren} {D} {E} {P} {e} {Whole} {Enters} {Wanted} rest closed low h build form = record {
   completes = λ kind t says. grow kind t (h.completes kind t says);
   nothing = λ t is l agree n y p. let f = form t l (h.completes wrong t is).forward agree n y p in h.nothing t is l agree f.left f.part f.is;
 }
   where
-    grow : (kind : Kind) (t : ℕ) → Completes kind toks j inner t false D E → Completes kind toks i left t paren D2 E2
+    grow : (kind : Kind) (t : ℕ) → Completes kind toks j inner t false D E → Completes kind toks i left t paren Whole Enters
     grow kind t c =
         let fw = c.forward in
         record {
@@ -52,16 +52,16 @@ stops_after {A} {B} {C} {F} {toks} {i} {j} {left} {inner} {paren} {D} {E} {P} {e
 
 -- a part that stops and may begin with a `(`, behind one token
 pub stops_behind : {A B C F : Type 0} {toks : List Tok} {i j left inner : ℕ} {paren round : Bool} {D : List Tok → ℕ → A → Type 0} {E : ℕ → A → List Entry} {P : List Tok → ℕ → B → Type 0} {e : ParseErr}
-    {D2 : List Tok → ℕ → C → Type 0} {E2 : ℕ → C → List Entry} {P2 : List Tok → ℕ → F → Type 0} → i < j → Stops toks j inner round D E P e
-    → ((kind : Kind) (t : ℕ) (l : List Tok) (k : ℕ) → j ≤ behind kind t → AgreeBefore toks l j → Made kind t inner (D l k) E → Made kind t left (D2 l k) E2)
-    → ((t : ℕ) (l : List Tok) → j ≤ t → AgreeBefore toks l (t + 1) → (n : ℕ) (y : F) → P2 l n y → Seen (P l))
-    → Stops toks i left paren D2 E2 P2 e
-stops_behind {A} {B} {C} {F} {toks} {i} {j} {left} {inner} {paren} {round} {D} {E} {P} {e} {D2} {E2} {P2} low h build form = record {
+    {Whole : List Tok → ℕ → C → Type 0} {Enters : ℕ → C → List Entry} {Wanted : List Tok → ℕ → F → Type 0} → i < j → Stops toks j inner round D E P e
+    → ((kind : Kind) (t : ℕ) (l : List Tok) (k : ℕ) → j ≤ behind kind t → AgreeBefore toks l j → Made kind t inner (D l k) E → Made kind t left (Whole l k) Enters)
+    → ((t : ℕ) (l : List Tok) → j ≤ t → AgreeBefore toks l (t + 1) → (n : ℕ) (y : F) → Wanted l n y → Seen (P l))
+    → Stops toks i left paren Whole Enters Wanted e
+stops_behind {A} {B} {C} {F} {toks} {i} {j} {left} {inner} {paren} {round} {D} {E} {P} {e} {Whole} {Enters} {Wanted} low h build form = record {
   completes = λ kind t says. grow kind t (h.completes kind t says);
   nothing = λ t is l agree n y p. let f = form t l (h.completes wrong t is).forward agree n y p in h.nothing t is l agree f.left f.part f.is;
 }
   where
-    grow : (kind : Kind) (t : ℕ) → Completes kind toks j inner t round D E → Completes kind toks i left t paren D2 E2
+    grow : (kind : Kind) (t : ℕ) → Completes kind toks j inner t round D E → Completes kind toks i left t paren Whole Enters
     grow kind t c =
         let fw = c.forward in
         let b = behind_least kind t in
@@ -75,11 +75,11 @@ stops_behind {A} {B} {C} {F} {toks} {i} {j} {left} {inner} {paren} {round} {D} {
 
 -- a part that stops and may begin with a `(`, in a whole that may begin with one
 pub stops_beside : {A B C F : Type 0} {toks : List Tok} {i j left inner : ℕ} {round : Bool} {D : List Tok → ℕ → A → Type 0} {E : ℕ → A → List Entry} {P : List Tok → ℕ → B → Type 0} {e : ParseErr}
-    {D2 : List Tok → ℕ → C → Type 0} {E2 : ℕ → C → List Entry} {P2 : List Tok → ℕ → F → Type 0} → i ≤ j → Stops toks j inner round D E P e
-    → ((kind : Kind) (t : ℕ) (l : List Tok) (k : ℕ) → j ≤ behind kind t → AgreeBefore toks l j → Made kind t inner (D l k) E → Made kind t left (D2 l k) E2)
-    → ((t : ℕ) (l : List Tok) → j ≤ t → AgreeBefore toks l (t + 1) → (n : ℕ) (y : F) → P2 l n y → Seen (P l))
-    → Stops toks i left true D2 E2 P2 e
-stops_beside {A} {B} {C} {F} {toks} {i} {j} {left} {inner} {round} {D} {E} {P} {e} {D2} {E2} {P2} low h build form = record {
+    {Whole : List Tok → ℕ → C → Type 0} {Enters : ℕ → C → List Entry} {Wanted : List Tok → ℕ → F → Type 0} → i ≤ j → Stops toks j inner round D E P e
+    → ((kind : Kind) (t : ℕ) (l : List Tok) (k : ℕ) → j ≤ behind kind t → AgreeBefore toks l j → Made kind t inner (D l k) E → Made kind t left (Whole l k) Enters)
+    → ((t : ℕ) (l : List Tok) → j ≤ t → AgreeBefore toks l (t + 1) → (n : ℕ) (y : F) → Wanted l n y → Seen (P l))
+    → Stops toks i left true Whole Enters Wanted e
+stops_beside {A} {B} {C} {F} {toks} {i} {j} {left} {inner} {round} {D} {E} {P} {e} {Whole} {Enters} {Wanted} low h build form = record {
   completes = λ kind t says. grow kind t (h.completes kind t says);
   nothing = λ t is l agree n y p. let f = form t l (h.completes wrong t is).forward agree n y p in h.nothing t is l agree f.left f.part f.is;
 }
@@ -87,7 +87,7 @@ stops_beside {A} {B} {C} {F} {toks} {i} {j} {left} {inner} {round} {D} {E} {P} {
     round_not : true ≡ false → ⊥
     round_not e = cc
 
-    grow : (kind : Kind) (t : ℕ) → Completes kind toks j inner t round D E → Completes kind toks i left t true D2 E2
+    grow : (kind : Kind) (t : ℕ) → Completes kind toks j inner t round D E → Completes kind toks i left t true Whole Enters
     grow kind t c =
         let fw = c.forward in
         record {
@@ -99,8 +99,8 @@ stops_beside {A} {B} {C} {F} {toks} {i} {j} {left} {inner} {round} {D} {E} {P} {
         }
 
 -- the same part, of which something else is said
-pub stops_form : {A B F : Type 0} {toks : List Tok} {i left : ℕ} {paren : Bool} {D : List Tok → ℕ → A → Type 0} {E : ℕ → A → List Entry} {P : List Tok → ℕ → B → Type 0} {e : ParseErr} {P2 : List Tok → ℕ → F → Type 0}
-    → Stops toks i left paren D E P e → ((t : ℕ) (l : List Tok) → i ≤ t → AgreeBefore toks l (t + 1) → (n : ℕ) (y : F) → P2 l n y → Seen (P l)) → Stops toks i left paren D E P2 e
+pub stops_form : {A B F : Type 0} {toks : List Tok} {i left : ℕ} {paren : Bool} {D : List Tok → ℕ → A → Type 0} {E : ℕ → A → List Entry} {P : List Tok → ℕ → B → Type 0} {e : ParseErr} {Wanted : List Tok → ℕ → F → Type 0}
+    → Stops toks i left paren D E P e → ((t : ℕ) (l : List Tok) → i ≤ t → AgreeBefore toks l (t + 1) → (n : ℕ) (y : F) → Wanted l n y → Seen (P l)) → Stops toks i left paren D E Wanted e
 stops_form h form = record {
   completes = h.completes;
   nothing = λ t is l agree n y p. let f = form t l (h.completes wrong t is).forward agree n y p in h.nothing t is l agree f.left f.part f.is;
@@ -179,16 +179,16 @@ pub record Last {A : Type 0} (kind : Kind) (toks l : List Tok) (j t inner k : �
   pub made : Made kind t inner D E
 
 pub stops_last : {A B C F : Type 0} {toks : List Tok} {i j left inner : ℕ} {paren : Bool} {D : List Tok → ℕ → A → Type 0} {E : ℕ → A → List Entry} {P : List Tok → ℕ → B → Type 0} {e : ParseErr}
-    {D2 : List Tok → ℕ → C → Type 0} {E2 : ℕ → C → List Entry} {P2 : List Tok → ℕ → F → Type 0} → i ≤ j → Stops toks j inner false D E P e
-    → ((kind : Kind) (t : ℕ) (l : List Tok) (k : ℕ) → j ≤ behind kind t → Last kind toks l j t inner k (D l k) E → Made kind t left (D2 l k) E2)
-    → ((t : ℕ) (l : List Tok) → j ≤ t → AgreeBefore toks l (t + 1) → (n : ℕ) (y : F) → P2 l n y → Seen (P l))
-    → Stops toks i left paren D2 E2 P2 e
-stops_last {A} {B} {C} {F} {toks} {i} {j} {left} {inner} {paren} {D} {E} {P} {e} {D2} {E2} {P2} low h build form = record {
+    {Whole : List Tok → ℕ → C → Type 0} {Enters : ℕ → C → List Entry} {Wanted : List Tok → ℕ → F → Type 0} → i ≤ j → Stops toks j inner false D E P e
+    → ((kind : Kind) (t : ℕ) (l : List Tok) (k : ℕ) → j ≤ behind kind t → Last kind toks l j t inner k (D l k) E → Made kind t left (Whole l k) Enters)
+    → ((t : ℕ) (l : List Tok) → j ≤ t → AgreeBefore toks l (t + 1) → (n : ℕ) (y : F) → Wanted l n y → Seen (P l))
+    → Stops toks i left paren Whole Enters Wanted e
+stops_last {A} {B} {C} {F} {toks} {i} {j} {left} {inner} {paren} {D} {E} {P} {e} {Whole} {Enters} {Wanted} low h build form = record {
   completes = λ kind t says. grow kind t (h.completes kind t says);
   nothing = λ t is l agree n y p. let f = form t l (h.completes wrong t is).forward agree n y p in h.nothing t is l agree f.left f.part f.is;
 }
   where
-    grow : (kind : Kind) (t : ℕ) → Completes kind toks j inner t false D E → Completes kind toks i left t paren D2 E2
+    grow : (kind : Kind) (t : ℕ) → Completes kind toks j inner t false D E → Completes kind toks i left t paren Whole Enters
     grow kind t c =
         let fw = c.forward in
         record {
@@ -209,16 +209,16 @@ four (stand_more d rest) = record { middle = _; first = d; rest = three rest }
 
 -- the same tokens, which complete something else too
 pub stops_map : {A B C F : Type 0} {toks : List Tok} {i left inner : ℕ} {paren : Bool} {D : List Tok → ℕ → A → Type 0} {E : ℕ → A → List Entry} {P : List Tok → ℕ → B → Type 0} {e : ParseErr}
-    {D2 : List Tok → ℕ → C → Type 0} {E2 : ℕ → C → List Entry} {P2 : List Tok → ℕ → F → Type 0} → Stops toks i inner paren D E P e
-    → ((kind : Kind) (t : ℕ) (l : List Tok) (k : ℕ) → i ≤ behind kind t → NoParenFollows l k → Made kind t inner (D l k) E → Made kind t left (D2 l k) E2)
-    → ((t : ℕ) (l : List Tok) → i ≤ t → AgreeBefore toks l (t + 1) → (n : ℕ) (y : F) → P2 l n y → Seen (P l))
-    → Stops toks i left paren D2 E2 P2 e
-stops_map {A} {B} {C} {F} {toks} {i} {left} {inner} {paren} {D} {E} {P} {e} {D2} {E2} {P2} h build form = record {
+    {Whole : List Tok → ℕ → C → Type 0} {Enters : ℕ → C → List Entry} {Wanted : List Tok → ℕ → F → Type 0} → Stops toks i inner paren D E P e
+    → ((kind : Kind) (t : ℕ) (l : List Tok) (k : ℕ) → i ≤ behind kind t → NoParenFollows l k → Made kind t inner (D l k) E → Made kind t left (Whole l k) Enters)
+    → ((t : ℕ) (l : List Tok) → i ≤ t → AgreeBefore toks l (t + 1) → (n : ℕ) (y : F) → Wanted l n y → Seen (P l))
+    → Stops toks i left paren Whole Enters Wanted e
+stops_map {A} {B} {C} {F} {toks} {i} {left} {inner} {paren} {D} {E} {P} {e} {Whole} {Enters} {Wanted} h build form = record {
   completes = λ kind t says. grow kind t (h.completes kind t says);
   nothing = λ t is l agree n y p. let f = form t l (h.completes wrong t is).forward agree n y p in h.nothing t is l agree f.left f.part f.is;
 }
   where
-    grow : (kind : Kind) (t : ℕ) → Completes kind toks i inner t paren D E → Completes kind toks i left t paren D2 E2
+    grow : (kind : Kind) (t : ℕ) → Completes kind toks i inner t paren D E → Completes kind toks i left t paren Whole Enters
     grow kind t c = record {
       forward = c.forward;
       within = c.within;

@@ -9,7 +9,6 @@ pub mod ExprForms
 pub mod StatForms
 pub mod ExprParts
 pub mod StatParts
-pub mod EntryLevels
 pub mod EntryOpeners
 pub mod Completing
 pub mod Frames

@@ -13,7 +13,7 @@ use Rattle.luf_tree.specs.SyntaxOf.{syntax_of_expr, syntax_of_block, syntax_of_s
 use Rattle.luf_tree.specs.Entry.{Entry}
 use Rattle.luf_tree.specs.Level.{deepest, if_there, block_if_there, expr_levels, field_levels, suffix_levels, step_levels, stat_levels, arm_levels, block_levels}
 use Rattle.luf_tree.proofs.LevelEquations as lv
-use Rattle.luf_descent.proofs.EntryLevels.{reach_expression, reach_expressions, reach_operations, reach_suffixes, reach_fields, reach_statements, reach_arms, reach_block, reach_optional_expression, reach_optional_block}
+use Rattle.luf_tree.proofs.EntryLevels.{reach_expression, reach_expressions, reach_operations, reach_suffixes, reach_fields, reach_statements, reach_arms, reach_block, reach_optional_expression, reach_optional_block}
 use Rattle.luf_descent.specs.PartEntries.{expr_entries, exprs_entries, steps_entries, suffixes_entries, fields_entries, stats_entries, arms_entries, block_entries, step_entries, else_entries}
 use Rattle.luf_descent.proofs.Completing.{low_levels}
 

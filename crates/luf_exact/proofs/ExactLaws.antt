@@ -10,7 +10,7 @@ use Rattle.luf_tree.specs.Agree.{AgreeBefore}
 use Rattle.luf_tree.specs.Entry.{Entry, entries, greatest_level}
 use Rattle.luf_tree.specs.Grammar.{IsChunk}
 use Rattle.luf_tree.specs.Level.{depth_of, level_limit}
-use Rattle.luf_descent.proofs.EntryLevels.{depth_is_greatest}
+use Rattle.luf_tree.proofs.EntryLevels.{depth_is_greatest}
 use Rattle.luf_exact.proofs.SameEntries.{same_entries}
 use Rattle.luf_descent.specs.declared.error.ParseErr.{ParseErr}
 use Rattle.luf_descent.specs.declared.error.ParseErr.TheVariants as error

@@ -25,7 +25,7 @@ reach_entered : {level token a : ℕ} {es : List Entry} → Reaches (level + 1) 
 reach_entered inside = record { is = omega (arith, inside.is) }
 
 mutual
-  reach_expression : (level : ℕ) (x : tokens.Expression) → Reaches level (entries_of_expression level x) (levels_of_expression x)
+  pub reach_expression : (level : ℕ) (x : tokens.Expression) → Reaches level (entries_of_expression level x) (levels_of_expression x)
   reach_expression level (syntax.nil_value span) = reach_none level
   reach_expression level (syntax.true_value span) = reach_none level
   reach_expression level (syntax.false_value span) = reach_none level
@@ -41,44 +41,44 @@ mutual
   reach_expression level (syntax.power span base sign exponent) = reach_both (reach_expression level base) (reach_entered (reach_expression (level + 1) exponent))
   reach_expression level (syntax.suffixed span head suffixes) = reach_both (reach_expression level head) (reach_suffixes level suffixes)
 
-  reach_optional_expression : (level : ℕ) (x : tokens.OptionalExpression) → Reaches level (entries_of_optional_expression level x) (levels_of_optional_expression x)
+  pub reach_optional_expression : (level : ℕ) (x : tokens.OptionalExpression) → Reaches level (entries_of_optional_expression level x) (levels_of_optional_expression x)
   reach_optional_expression level syntax.no_expression = reach_none level
   reach_optional_expression level (syntax.an_expression e) = reach_expression level e
 
-  reach_expressions : (level : ℕ) (x : tokens.Expressions) → Reaches level (entries_of_expressions level x) (levels_of_expressions x)
+  pub reach_expressions : (level : ℕ) (x : tokens.Expressions) → Reaches level (entries_of_expressions level x) (levels_of_expressions x)
   reach_expressions level syntax.no_expressions = reach_none level
   reach_expressions level (syntax.more_expressions first rest) = reach_both (reach_expression level first) (reach_expressions level rest)
 
-  reach_operation : (level : ℕ) (x : tokens.Operation) → Reaches level (entries_of_operation level x) (levels_of_operation x)
+  pub reach_operation : (level : ℕ) (x : tokens.Operation) → Reaches level (entries_of_operation level x) (levels_of_operation x)
   reach_operation level (syntax.operation sign right) = reach_expression level right
 
-  reach_operations : (level : ℕ) (x : tokens.Operations) → Reaches level (entries_of_operations level x) (levels_of_operations x)
+  pub reach_operations : (level : ℕ) (x : tokens.Operations) → Reaches level (entries_of_operations level x) (levels_of_operations x)
   reach_operations level syntax.no_operations = reach_none level
   reach_operations level (syntax.more_operations first rest) = reach_both (reach_operation level first) (reach_operations level rest)
 
-  reach_suffix : (level : ℕ) (x : tokens.Suffix) → Reaches level (entries_of_suffix level x) (levels_of_suffix x)
+  pub reach_suffix : (level : ℕ) (x : tokens.Suffix) → Reaches level (entries_of_suffix level x) (levels_of_suffix x)
   reach_suffix level (syntax.name_suffix name) = reach_none level
   reach_suffix level (syntax.index_suffix index) = reach_entered (reach_expression (level + 1) index)
   reach_suffix level (syntax.call_suffix args) = reach_arguments level args
   reach_suffix level (syntax.method_suffix name args) = reach_arguments level args
 
-  reach_suffixes : (level : ℕ) (x : tokens.Suffixes) → Reaches level (entries_of_suffixes level x) (levels_of_suffixes x)
+  pub reach_suffixes : (level : ℕ) (x : tokens.Suffixes) → Reaches level (entries_of_suffixes level x) (levels_of_suffixes x)
   reach_suffixes level syntax.no_suffixes = reach_none level
   reach_suffixes level (syntax.more_suffixes first rest) = reach_both (reach_suffix level first) (reach_suffixes level rest)
 
-  reach_arguments : (level : ℕ) (x : tokens.Arguments) → Reaches level (entries_of_arguments level x) (levels_of_arguments x)
+  pub reach_arguments : (level : ℕ) (x : tokens.Arguments) → Reaches level (entries_of_arguments level x) (levels_of_arguments x)
   reach_arguments level (syntax.arguments span parentheses items) = reach_entered (reach_expressions (level + 1) items)
 
-  reach_field : (level : ℕ) (x : tokens.Field) → Reaches level (entries_of_field level x) (levels_of_field x)
+  pub reach_field : (level : ℕ) (x : tokens.Field) → Reaches level (entries_of_field level x) (levels_of_field x)
   reach_field level (syntax.item_field value) = reach_expression level value
   reach_field level (syntax.named_field name value) = reach_expression level value
   reach_field level (syntax.keyed_field key value) = reach_both (reach_entered (reach_expression (level + 1) key)) (reach_expression level value)
 
-  reach_fields : (level : ℕ) (x : tokens.Fields) → Reaches level (entries_of_fields level x) (levels_of_fields x)
+  pub reach_fields : (level : ℕ) (x : tokens.Fields) → Reaches level (entries_of_fields level x) (levels_of_fields x)
   reach_fields level syntax.no_fields = reach_none level
   reach_fields level (syntax.more_fields first rest) = reach_both (reach_field level first) (reach_fields level rest)
 
-  reach_statement : (level : ℕ) (x : tokens.Statement) → Reaches level (entries_of_statement level x) (levels_of_statement x)
+  pub reach_statement : (level : ℕ) (x : tokens.Statement) → Reaches level (entries_of_statement level x) (levels_of_statement x)
   reach_statement level (syntax.empty_statement span) = reach_none level
   reach_statement level (syntax.local_statement span names values) = reach_expressions level values
   reach_statement level (syntax.assignment span targets values) = reach_both (reach_expressions level targets) (reach_expressions level values)
@@ -96,25 +96,25 @@ mutual
   reach_statement level (syntax.break_statement span) = reach_none level
   reach_statement level (syntax.return_statement span values) = reach_expressions level values
 
-  reach_statements : (level : ℕ) (x : tokens.Statements) → Reaches level (entries_of_statements level x) (levels_of_statements x)
+  pub reach_statements : (level : ℕ) (x : tokens.Statements) → Reaches level (entries_of_statements level x) (levels_of_statements x)
   reach_statements level syntax.no_statements = reach_none level
   reach_statements level (syntax.more_statements first rest) = reach_both (reach_statement level first) (reach_statements level rest)
 
-  reach_arm : (level : ℕ) (x : tokens.Arm) → Reaches level (entries_of_arm level x) (levels_of_arm x)
+  pub reach_arm : (level : ℕ) (x : tokens.Arm) → Reaches level (entries_of_arm level x) (levels_of_arm x)
   reach_arm level (syntax.arm test body) = reach_both (reach_expression level test) (reach_entered (reach_block (level + 1) body))
 
-  reach_arms : (level : ℕ) (x : tokens.Arms) → Reaches level (entries_of_arms level x) (levels_of_arms x)
+  pub reach_arms : (level : ℕ) (x : tokens.Arms) → Reaches level (entries_of_arms level x) (levels_of_arms x)
   reach_arms level syntax.no_arms = reach_none level
   reach_arms level (syntax.more_arms first rest) = reach_both (reach_arm level first) (reach_arms level rest)
 
-  reach_block : (level : ℕ) (x : tokens.Block) → Reaches level (entries_of_block level x) (levels_of_block x)
+  pub reach_block : (level : ℕ) (x : tokens.Block) → Reaches level (entries_of_block level x) (levels_of_block x)
   reach_block level (syntax.block span statements) = reach_statements level statements
 
-  reach_optional_block : (level : ℕ) (x : tokens.OptionalBlock) → Reaches level (entries_of_optional_block level x) (levels_of_optional_block x)
+  pub reach_optional_block : (level : ℕ) (x : tokens.OptionalBlock) → Reaches level (entries_of_optional_block level x) (levels_of_optional_block x)
   reach_optional_block level syntax.no_block = reach_none level
   reach_optional_block level (syntax.a_block body) = reach_entered (reach_block (level + 1) body)
 
-  reach_function_body : (level : ℕ) (x : tokens.FunctionBody) → Reaches level (entries_of_function_body level x) (levels_of_function_body x)
+  pub reach_function_body : (level : ℕ) (x : tokens.FunctionBody) → Reaches level (entries_of_function_body level x) (levels_of_function_body x)
   reach_function_body level (syntax.function_body span parameters vararg body) = reach_block level body
 
 pub depth_is_greatest : (chunk : Chunk) → depth_of chunk ≡ greatest_level (entries chunk)

@@ -3,7 +3,6 @@ pub mod SyntaxEquations
 pub mod SyntaxMapLaws
 pub mod SyntaxKept
 pub mod LevelEquations
-pub mod LevelMap
 pub mod LevelReads
 pub mod LevelExamples
 pub mod EntryLevels

@@ -9,6 +9,7 @@ ghost use Rattle.luf_tree.specs.Agree.{Front, IsLocal};
 ghost use Rattle.luf_tree.specs.Entry.{entries, greatest_level};
 ghost use Rattle.luf_tree.specs.Grammar.{AreSuffixes, IsBlock, IsExpr, IsHead};
 ghost use Rattle.luf_tree.specs.Level.{depth_of};
+ghost use Rattle.luf_tree.specs.SyntaxOf.{syntax_of};
 
 /// The depth of a chunk is the greatest level that one of its tokens enters.
 pub fn depth_is_greatest()
@@ -38,4 +39,9 @@ pub fn block_alone()
 /// The front of a suffixed expression is an expression by itself.
 pub fn front_alone()
     ensures { (toks : List Tok) (calls : Bool) (i j k : ℕ) (head : Expr) (front rest : List Suffix) → IsHead toks i j head → AreSuffixes toks calls j k (front ++ rest) → Front toks i k head front }
+{}
+
+/// The syntax of a chunk loses nothing of it: two chunks of one syntax are one.
+pub fn one_chunk_of_syntax()
+    ensures { (c d : Chunk) → syntax_of c ≡ syntax_of d → c ≡ d }
 {}

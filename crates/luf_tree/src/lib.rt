@@ -7,7 +7,7 @@ mod tree;
 
 pub use laws::{
     block_alone, block_is_local, depth_is_greatest, expression_alone, expression_is_local,
-    front_alone,
+    front_alone, one_chunk_of_syntax,
 };
 pub use read::{depth, first_token, last_token};
 pub use tree::{
