@@ -13,7 +13,7 @@ before_levels : {M : syntax.Shape} (s : Option (syntax.Statement M)) (rest : syn
 before_levels None rest = omega arith
 before_levels (Some s) rest = refl
 
-module _ {K M : syntax.Shape} (f : ShapeMap K M) (encloses : K.Span → Bool → Bool) where
+module _ {K M : syntax.Shape} (f : ShapeMap K M) (encloses : syntax.Expressions K → Bool → Bool) where
   mutual
     pub expression_levels : (x : syntax.Expression K) → levels_of_expression (chosen_expression f encloses x) ≡ levels_of_expression x
     expression_levels (syntax.nil_value span) = refl

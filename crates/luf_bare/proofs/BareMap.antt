@@ -10,11 +10,11 @@ before_after : {M N : syntax.Shape} (g : ShapeMap M N) (s : Option (syntax.State
 before_after g None rest = refl
 before_after g (Some s) rest = refl
 
-declared_after : {K M N : syntax.Shape} (g : ShapeMap M N) (f : ShapeMap K M) (encloses : K.Span → Bool → Bool) (ds : List (syntax.DeclaredName K)) → map (map_declared g) (map (chosen_declared f encloses) ds) ≡ map (chosen_declared (after g f) encloses) ds
+declared_after : {K M N : syntax.Shape} (g : ShapeMap M N) (f : ShapeMap K M) (encloses : syntax.Expressions K → Bool → Bool) (ds : List (syntax.DeclaredName K)) → map (map_declared g) (map (chosen_declared f encloses) ds) ≡ map (chosen_declared (after g f) encloses) ds
 declared_after g f encloses [] = refl
 declared_after g f encloses (d ∷ ds) = λ i. (record { name = g.name (f.name d.name); attribute = option_after f.leaf g.leaf d.attribute i }) ∷ declared_after g f encloses ds i
 
-module _ {K M N : syntax.Shape} (g : ShapeMap M N) (f : ShapeMap K M) (encloses : K.Span → Bool → Bool) where
+module _ {K M N : syntax.Shape} (g : ShapeMap M N) (f : ShapeMap K M) (encloses : syntax.Expressions K → Bool → Bool) where
   mutual
     pub expression_after : (x : syntax.Expression K) → map_expression g (chosen_expression f encloses x) ≡ chosen_expression (after g f) encloses x
     expression_after (syntax.nil_value span) = refl
@@ -58,7 +58,7 @@ module _ {K M N : syntax.Shape} (g : ShapeMap M N) (f : ShapeMap K M) (encloses 
     suffixes_after (syntax.more_suffixes first rest) = λ i. syntax.more_suffixes (suffix_after first i) (suffixes_after rest i)
 
     pub arguments_after : (x : syntax.Arguments K) → map_arguments g (chosen_arguments f encloses x) ≡ chosen_arguments (after g f) encloses x
-    arguments_after (syntax.arguments span parentheses items) = λ i. syntax.arguments (g.span (f.span span)) (encloses span parentheses) (expressions_after items i)
+    arguments_after (syntax.arguments span parentheses items) = λ i. syntax.arguments (g.span (f.span span)) (encloses items parentheses) (expressions_after items i)
 
     pub field_after : (x : syntax.Field K) → map_field g (chosen_field f encloses x) ≡ chosen_field (after g f) encloses x
     field_after (syntax.item_field value) = λ i. syntax.item_field (expression_after value i)

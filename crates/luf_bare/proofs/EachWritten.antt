@@ -26,7 +26,7 @@ each_at all_none other i within = absurd (omega (arith, within))
 each_at (all_more fits all) other zero within = fits
 each_at (all_more fits all) other (suc i) within = each_at all other i (omega (arith, within))
 
-module _ {X : Type 0} (kind : X → Tok) (put : Tok → X) (add : Tok → List X) (trails : tokens.Span → Bool) (encloses : tokens.Span → Bool → Bool) (says : ℕ → X) (Fits : X → Type 0) (puts : (t : Tok) → Fits (put t)) (additions : (s : Mark) → Each Fits (add (Sign s))) (fits : (i : ℕ) → Fits (says i)) where
+module _ {X : Type 0} (kind : X → Tok) (put : Tok → X) (add : Tok → List X) (trails : tokens.Span → Bool) (encloses : tokens.Expressions → Bool → Bool) (says : ℕ → X) (Fits : X → Type 0) (puts : (t : Tok) → Fits (put t)) (additions : (s : Mark) → Each Fits (add (Sign s))) (fits : (i : ℕ) → Fits (says i)) where
   each_more_names : (names : List ℕ) → Each Fits (written_more_names kind put add trails (map says names))
   each_more_names [] = all_none
   each_more_names (name ∷ names) = all_more (puts (Sign sign.Comma)) (all_more (fits _) (each_more_names names))
@@ -138,7 +138,7 @@ module _ {X : Type 0} (kind : X → Tok) (put : Tok → X) (add : Tok → List X
     each_suffixes (syntax.more_suffixes first rest) = each_append (each_suffix first) (each_suffixes rest)
 
     each_arguments : (s : tokens.Arguments) → Each Fits (written_arguments kind put add trails (chosen_arguments (words_at says) encloses s))
-    each_arguments (syntax.arguments span parentheses items) = each_enclosed (is_lone (chosen_expressions (words_at says) encloses items)) (encloses span parentheses) (each_expressions items)
+    each_arguments (syntax.arguments span parentheses items) = each_enclosed (is_lone (chosen_expressions (words_at says) encloses items)) (encloses items parentheses) (each_expressions items)
 
     each_field : (s : tokens.Field) → Each Fits (written_field kind put add trails (chosen_field (words_at says) encloses s))
     each_field (syntax.item_field value) = each_expression value

@@ -1,6 +1,8 @@
 pub mod BareLevels
 pub mod BareMap
+pub mod BareAgain
 pub mod Ends
+pub mod LoneLaws
 pub mod Reading
 pub mod Written
 pub mod Significant

@@ -20,11 +20,11 @@ use Rattle.luf_tree.specs.TokenSyntax as tokens
 use Rattle.luf_tree.specs.TokenSyntax.{from_to}
 use Rattle.luf_tree.specs.SyntaxOf.{expressions_of, operations_of, suffixes_of, fields_of, statements_of, arms_of, optional_expression_of, optional_block_of, declared_of, first_of_path, rest_of_path, syntax_of_expr, syntax_of_block, syntax_of_stat, syntax_of_field, syntax_of_suffix, syntax_of_step, syntax_of_arm, syntax_of_args, syntax_of_body}
 use Rattle.luf_tree.specs.SyntaxOf.{syntax_of}
-use Rattle.luf_tree.specs.SyntaxMap.{ShapeMap}
 use Rattle.luf_tree.specs.declared.tree.Chunk.{Chunk}
 use Rattle.luf_bare.proofs.Ends.{between_none, between_one, place_before, exprs_end, field_end}
-use Rattle.luf_bare.specs.Bare.{Bare, words_of, before, bare_declared, bare_expression, bare_optional_expression, bare_expressions, bare_operations, bare_suffix, bare_suffixes, bare_arguments, bare_field, bare_fields, bare_statement, bare_statements, bare_arm, bare_arms, bare_block, bare_optional_block, bare_function_body}
-use Rattle.luf_bare.specs.Lone.{is_lone, is_lone_item}
+use Rattle.luf_bare.specs.Bare.{Bare, words_of, always, before, bare_declared, bare_expression, bare_optional_expression, bare_expressions, bare_operations, bare_suffix, bare_suffixes, bare_arguments, bare_field, bare_fields, bare_statement, bare_statements, bare_arm, bare_arms, bare_block, bare_optional_block, bare_function_body}
+use Rattle.luf_bare.specs.Lone.{is_lone}
+use Rattle.luf_bare.proofs.LoneLaws.{lone_chosen}
 use Rattle.luf_bare.specs.Dropped.{between, if_dropped, dropped_expression, dropped_for_step, dropped_expressions, dropped_operations, dropped_suffix, dropped_suffixes, dropped_arguments, dropped_field, dropped_fields, dropped_statement, dropped_statements, dropped_arm, dropped_arms, dropped_block, dropped_else, dropped_body}
 use Rattle.luf_tree.proofs.SyntaxEquations.{nil_syntax, true_syntax, false_syntax, number_syntax, string_syntax, vararg_syntax, name_syntax, paren_syntax, function_syntax, table_syntax, unary_syntax, chain_syntax, power_syntax, suffixed_syntax, empty_syntax, local_syntax, assign_syntax, call_syntax, do_syntax, while_syntax, repeat_syntax, if_syntax, for_syntax, for_in_syntax, function_stat_syntax, local_function_syntax, label_syntax, goto_syntax, break_syntax, return_syntax, item_syntax, named_syntax, keyed_syntax, dot_syntax, index_syntax, call_suffix_syntax, method_syntax, step_of_syntax, arm_of_syntax, args_of_syntax, block_of_syntax, body_of_syntax}
 use Rattle.luf_bare.specs.Rank.{rank, ranks, ranked}
@@ -68,16 +68,6 @@ rest_named f (name ∷ fields) = refl
 path_named : {A B : Type 0} (f : A → B) (path : List A) → path_of (option_map f (first_of_path path)) (map f (rest_of_path path)) ≡ map f path
 path_named f [] = refl
 path_named f (name ∷ fields) = refl
-
-lone_item_of : {K M : syntax.Shape} (f : ShapeMap K M) (e : syntax.Expression K) → is_lone_item (bare_expression f e) ≡ is_lone_item e
-lone_item_of f (syntax.string _ _) = refl
-lone_item_of f (syntax.table _ _) = refl
-lone_item_of f _ = refl
-
-lone_of : {K M : syntax.Shape} (f : ShapeMap K M) (es : syntax.Expressions K) → is_lone (bare_expressions f es) ≡ is_lone es
-lone_of f syntax.no_expressions = refl
-lone_of f (syntax.more_expressions e syntax.no_expressions) = lone_item_of f e
-lone_of f (syntax.more_expressions e (syntax.more_expressions g rest)) = refl
 
 module _ (all : List ℕ) {X : Type 0} (toks : List Tok) (says : ℕ → X) where
   -- this part is what is placed from the rank of i on, and ends at the rank of k
@@ -178,7 +168,7 @@ module _ (all : List ℕ) {X : Type 0} (toks : List Tok) (says : ℕ → X) wher
 
   enclosed_part : {i j k l : ℕ} {t u : Tok} (items : tokens.Expressions) → IsToken toks i t j → ((more : List ℕ) → ListPart j k more items) → IsToken toks k u l → (after : List ℕ) → ArgumentsPart i l after (syntax.arguments (from_to i l) true items)
   enclosed_part {i} {j} {k} {l} items t_l inner t_r after =
-      subst (λ z. Part all i l (if_dropped (is_lone items) i (dropped_expressions items (if_dropped (is_lone items) (l - 1) after))) after (Enclosed z i l items)) (sym (lone_of (words_of says) items))
+      subst (λ z. Part all i l (if_dropped (is_lone items) i (dropped_expressions items (if_dropped (is_lone items) (l - 1) after))) after (Enclosed z i l items)) (sym (lone_chosen (words_of says) always items))
       (subst (λ z. Part all i l (if_dropped (is_lone items) i (dropped_expressions items (if_dropped (is_lone items) z after))) after (Enclosed (is_lone items) i l items)) (sym (place_before t_r.next))
       (enclosed_by (is_lone items) items t_l inner t_r after))
 

@@ -11,11 +11,12 @@ use Rattle.luf_tree.specs.SyntaxMap.{ShapeMap, map_block}
 use Rattle.luf_tree.specs.SyntaxOf.{syntax_of}
 use Rattle.luf_tree.specs.Level.{levels_of_block, depth_of}
 use Rattle.luf_tree.specs.TokenSyntax as tokens
-use Rattle.luf_bare.specs.Bare.{Bare, always, bare_block, words_of}
+use Rattle.luf_bare.specs.Bare.{Bare, always, as_here, bare_block, bare_of, words_of}
+use Rattle.luf_bare.specs.Lone.{where_lone}
 use Rattle.luf_bare.specs.Dropped.{if_dropped}
 use Rattle.luf_bare.specs.Significant.{IsFixed, is_among, places_but}
 use Rattle.luf_bare.specs.Writing.{written_block}
-use Rattle.luf_bare.specs.ReadBack.{SpelledToken, TextWord, token_of, is_added, spelled_at, own_word, added_word, word_at, additions, program, significant_words, AreSpelled, spelled_by, text_of, IsRead, TextIsRead, IsReadBack, WrittenIsRead, SignificantAreWritten, OneDepth}
+use Rattle.luf_bare.specs.ReadBack.{SpelledToken, TextWord, token_of, is_added, spelled_at, own_word, added_word, word_at, additions, program, program_with, significant_words, AreSpelled, spelled_by, text_of, IsRead, IsReadAs, TextIsRead, IsReadBack, WrittenIsRead, SignificantAreWritten, OneDepth}
 use Rattle.luf_bare.proofs.Reading.{Stand, none, kept, lost, read_block, some_is}
 use Rattle.luf_bare.proofs.Written.{tell_block}
 use Rattle.luf_bare.proofs.Significant as s
@@ -23,8 +24,12 @@ use Rattle.luf_bare.proofs.Significant.{AreSignificant, in_order, keep_block}
 use Rattle.luf_bare.proofs.EachWritten.{Each, all_none, all_more, each_at, each_block}
 use Rattle.luf_bare.proofs.BareLevels.{block_levels}
 use Rattle.luf_bare.proofs.BareMap.{block_after}
+use Rattle.luf_bare.proofs.BareAgain.{block_again}
 
 -- ---- a text is read
+
+abbrev same_words : (X : Type 0) → ShapeMap (Bare X) (Bare X)
+same_words X = record { span = λ s. s; name = λ x. x; label = λ x. x; leaf = λ x. x }
 
 end_closed : (toks : List Tok) (i : ℕ) → i ≡ length toks → NoParenFollows toks i
 end_closed toks i last paren = omega (arith, slice_get_within toks i _ paren)
@@ -51,9 +56,27 @@ module _ {X : Type 0} (kind : X → Tok) (added : X → Bool) (other : X) where
       (stand_from all (done ++ (x ∷ [])) rest (is ∙ sym (append_assoc done (x ∷ []) rest))))
 
 pub text_is_read : TextIsRead
-text_is_read bare text writes =
+text_is_read written text writes =
     let found = read_block token_of is_added (map token_of text) (word_at text) writes (stand_from token_of is_added _ text [] text refl) (end_closed (map token_of text) (length text) (sym (length-map text token_of))) in
-    record { tree = record { block = found.tree }; is_tree = subst (λ k. IsBlock (map token_of text) 0 k found.tree) (sym (length-map text token_of)) found.derived; same = found.same; drops = found.drops }
+    let tree : Chunk = record { block = found.tree } in
+    record {
+      read = record {
+        tree = tree;
+        is_tree = subst (λ k. IsBlock (map token_of text) 0 k found.tree) (sym (length-map text token_of)) found.derived;
+        same = sym (block_again (same_words TextWord) (words_of (word_at text)) as_here (syntax_of tree)) ∙ ap bare_of found.same;
+        drops = found.drops;
+      };
+      same = found.same;
+    }
+
+-- a text of the program of a chunk, whichever of its arguments stand in parentheses, is read as its bare program
+abbrev pub read_as_bare : (encloses : tokens.Expressions → Bool → Bool) (source : List SpelledToken) (chunk : Chunk) (text : List TextWord) → IsReadAs text (program_with encloses source chunk) → IsRead text (program source chunk)
+read_as_bare encloses source chunk text found = record {
+  tree = found.read.tree;
+  is_tree = found.read.is_tree;
+  same = found.read.same ∙ block_again (same_words TextWord) (words_of (λ i. own_word (spelled_at source i))) encloses (syntax_of chunk);
+  drops = found.read.drops;
+}
 
 -- ---- significant tokens as a list
 
@@ -136,7 +159,7 @@ module _ (spell : Tok → List ℕ) (source : List SpelledToken) (are_spelled : 
   abbrev IsSpelled : TextWord → Type 0
   IsSpelled word = IsFixed (token_of word) → word.spelled.spelling ≡ spell (token_of word)
 
-  text_spelled : (trails : tokens.Span → Bool) (encloses : tokens.Span → Bool → Bool) (chunk : Chunk) → Each IsSpelled (text_of spell source trails encloses chunk)
+  text_spelled : (trails : tokens.Span → Bool) (encloses : tokens.Expressions → Bool → Bool) (chunk : Chunk) → Each IsSpelled (text_of spell source trails encloses chunk)
   text_spelled trails encloses chunk =
       each_block token_of (λ t. own_word (spelled_by spell t)) (λ t. added_word (spelled_by spell t) ∷ []) trails encloses (λ i. own_word (spelled_at source i)) IsSpelled
       (λ t _. refl) (λ s. all_more (λ _. refl) all_none) are_spelled (syntax_of chunk)
@@ -148,13 +171,14 @@ module _ (spell : Tok → List ℕ) (source : List SpelledToken) (are_spelled : 
       (λ i t fixed there. fixed_is spell (word_at text i).spelled t (token_at token_of text _ i t there) fixed (each_at all _ i (omega (arith, slice_get_within (map token_of text) i t there, length-map text token_of))))
       tree derived (length text) (length-map text token_of)
 
-  pub read_back : (trails : tokens.Span → Bool) (encloses : tokens.Span → Bool → Bool) (chunk : Chunk) → IsChunk (map spelled_token source) chunk → IsReadBack source chunk (text_of spell source trails encloses chunk)
+  pub read_back : (trails : tokens.Span → Bool) (encloses : tokens.Expressions → Bool → Bool) (chunk : Chunk) → IsChunk (map spelled_token source) chunk → IsReadBack source chunk (text_of spell source trails encloses chunk)
   read_back trails encloses chunk derived =
       let text : List TextWord = text_of spell source trails encloses chunk in
       let read : IsRead text (program source chunk) =
-      text_is_read (program source chunk) text
+      read_as_bare (where_lone encloses) source chunk text
+      (text_is_read (program_with (where_lone encloses) source chunk) text
       (tell_block token_of is_added (λ t. own_word (spelled_by spell t)) (λ t. added_word (spelled_by spell t)) (λ t. (refl, refl)) (λ t. (refl, refl)) (map spelled_token source) (λ i. own_word (spelled_at source i))
-      (λ i t there. token_at spelled_token source _ i t there) (λ i. refl) trails encloses derived) in
+      (λ i t there. token_at spelled_token source _ i t there) (λ i. refl) trails encloses derived)) in
       record {
         read = read;
         significant = text_significant text read.tree (text_spelled trails encloses chunk) read.is_tree

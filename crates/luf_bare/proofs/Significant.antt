@@ -26,8 +26,9 @@ use Rattle.luf_bare.proofs.Ends.{between_none, between_one, place_before, exprs_
 use Rattle.luf_bare.specs.Significant.{IsFixed}
 use Rattle.luf_bare.specs.Writing.{opens, guarded_if, after_guard, enclosed, written_more_names, written_names, written_parameters, written_attribute, written_declared, written_fields_of_path, written_path, written_method, written_expression, written_for_step, written_more_expressions, written_expressions, written_operation, written_operations, written_suffix, written_suffixes, written_arguments, written_field, written_more_fields, written_fields, written_statement, written_statements, written_arm, written_more_arms, written_arms, written_block, written_else, written_body}
 use Rattle.luf_tree.specs.SyntaxOf.{expressions_of, operations_of, suffixes_of, fields_of, statements_of, arms_of, optional_expression_of, optional_block_of, declared_of, first_of_path, rest_of_path, syntax_of_expr, syntax_of_block, syntax_of_stat, syntax_of_field, syntax_of_suffix, syntax_of_step, syntax_of_arm, syntax_of_args, syntax_of_body}
-use Rattle.luf_bare.specs.Bare.{Bare, words_of, before, bare_declared, bare_expression, bare_optional_expression, bare_expressions, bare_operation, bare_operations, bare_suffix, bare_suffixes, bare_arguments, bare_field, bare_fields, bare_statement, bare_statements, bare_arm, bare_arms, bare_block, bare_optional_block, bare_function_body}
-use Rattle.luf_bare.specs.Lone.{is_lone, is_lone_item}
+use Rattle.luf_bare.specs.Bare.{Bare, words_of, always, before, bare_declared, bare_expression, bare_optional_expression, bare_expressions, bare_operation, bare_operations, bare_suffix, bare_suffixes, bare_arguments, bare_field, bare_fields, bare_statement, bare_statements, bare_arm, bare_arms, bare_block, bare_optional_block, bare_function_body}
+use Rattle.luf_bare.specs.Lone.{is_lone}
+use Rattle.luf_bare.proofs.LoneLaws.{lone_chosen}
 use Rattle.luf_bare.specs.Dropped.{between, if_dropped, dropped_expression, dropped_for_step, dropped_expressions, dropped_operation, dropped_operations, dropped_suffix, dropped_suffixes, dropped_arguments, dropped_field, dropped_fields, dropped_statement, dropped_statements, dropped_arm, dropped_arms, dropped_block, dropped_else, dropped_body}
 use Rattle.luf_tree.proofs.SyntaxEquations.{nil_syntax, true_syntax, false_syntax, number_syntax, string_syntax, vararg_syntax, name_syntax, paren_syntax, function_syntax, table_syntax, unary_syntax, chain_syntax, power_syntax, suffixed_syntax, empty_syntax, local_syntax, assign_syntax, call_syntax, do_syntax, while_syntax, repeat_syntax, if_syntax, for_syntax, for_in_syntax, function_stat_syntax, local_function_syntax, label_syntax, goto_syntax, break_syntax, return_syntax, item_syntax, named_syntax, keyed_syntax, dot_syntax, index_syntax, call_suffix_syntax, method_syntax, step_of_syntax, arm_of_syntax, args_of_syntax, block_of_syntax, body_of_syntax}
 
@@ -193,16 +194,6 @@ module _ {X : Type 0} (kind : X → Tok) (put : Tok → X) (toks : List Tok) (sa
   keep_semicolon : {i k : ℕ} → IsSemicolon toks i k → (after : List ℕ) → AreSignificant toks says [] i k (between i k after) after
   keep_semicolon (g.no_semicolon {i}) after = subst (λ z. AreSignificant toks says [] i i z after) (sym (between_none i after)) none
   keep_semicolon (g.a_semicolon {i} {j} t) after = subst (λ z. AreSignificant toks says [] i j z after) (sym (between_one i j after (omega (arith, t.next)))) (lost t none)
-
-  lone_item_of : (e : tokens.Expression) → is_lone_item (bare_expression (words_of says) e) ≡ is_lone_item e
-  lone_item_of (syntax.string _ _) = refl
-  lone_item_of (syntax.table _ _) = refl
-  lone_item_of _ = refl
-
-  lone_of : (es : tokens.Expressions) → is_lone (bare_expressions (words_of says) es) ≡ is_lone es
-  lone_of syntax.no_expressions = refl
-  lone_of (syntax.more_expressions e syntax.no_expressions) = lone_item_of e
-  lone_of (syntax.more_expressions e (syntax.more_expressions f rest)) = refl
 
   abbrev enclosed_own : Bool → List X → List X
   enclosed_own lone words = enclosed kind put nothing no_trail lone true words
@@ -392,7 +383,7 @@ module _ {X : Type 0} (kind : X → Tok) (put : Tok → X) (toks : List Tok) (sa
 
     keep_args : {i k : ℕ} {x : Args} → IsArgs toks i k x → (after : List ℕ) → KeptArguments i k after (syntax_of_args x)
     keep_args (g.no_args {i} {k} t_l t_r) after = subst (KeptArguments i k after) (sym (args_of_syntax i k true [])) (kept_fixed t_l tt (kept_fixed t_r tt none))
-    keep_args (g.list_args {i} {l} {es} t_l d t_r) after = subst (KeptArguments i l after) (sym (args_of_syntax i l true es)) (enclosed_keep (is_lone (expressions_of (map syntax_of_expr es))) (lone_of (expressions_of (map syntax_of_expr es))) t_l (λ more. keep_exprs d more) t_r after)
+    keep_args (g.list_args {i} {l} {es} t_l d t_r) after = subst (KeptArguments i l after) (sym (args_of_syntax i l true es)) (enclosed_keep (is_lone (expressions_of (map syntax_of_expr es))) (lone_chosen (words_of says) always (expressions_of (map syntax_of_expr es))) t_l (λ more. keep_exprs d more) t_r after)
     keep_args (g.string_args {i} {j} t_x) after = subst (KeptArguments i j after) (sym (args_of_syntax i j false (expression i j expr.Str ∷ []) ∙ ap (λ z. syntax.arguments (from_to i j) false (syntax.more_expressions z syntax.no_expressions)) (string_syntax i j))) (kept_string t_x refl none)
     keep_args (g.table_args {i} {j} {fields} d) after = subst (KeptArguments i j after) (sym (args_of_syntax i j false (expression i j (expr.Table fields) ∷ []) ∙ ap (λ z. syntax.arguments (from_to i j) false (syntax.more_expressions z syntax.no_expressions)) (table_syntax i j fields))) (end_nil (end_nil (keep_table d after)))
 

@@ -1,4 +1,4 @@
--- What is written of a chunk is a text of its bare program.
+-- What is written of a chunk is a text of its program, with parentheses round the lone arguments that are enclosed.
 use Rattle.std.proofs.Common.{◌≡◌, ℕ, inl, inr, Bool, true, false, Option, Some, None, List, [], ◌∷◌, ◌++◌, slice_get, map, ap, sym, refl, subst, ◌∙◌}
 use Rattle.std.specs.Option.{option_map}
 use Rattle.luf_lex.specs.declared.token.Tok.{Tok}
@@ -23,10 +23,11 @@ use Rattle.luf_tree.specs.Syntax as syntax
 use Rattle.luf_tree.specs.TokenSyntax as tokens
 use Rattle.luf_tree.specs.TokenSyntax.{from_to}
 use Rattle.std.proofs.lemmas.List.{append-nil}
-use Rattle.luf_bare.specs.Lone.{is_lone, is_lone_item}
+use Rattle.luf_bare.specs.Lone.{is_lone, is_lone_item, items_enclosed, where_lone}
+use Rattle.luf_bare.proofs.LoneLaws.{lone_chosen, lone_enclosed, others_enclosed}
 use Rattle.luf_bare.specs.Writing.{opens, guarded, guarded_if, separated, enclosed, after_guard, written_more_names, written_names, written_parameters, written_attribute, written_declared, written_fields_of_path, written_path, written_method, written_expression, written_for_step, written_more_expressions, written_expressions, written_operations, written_suffix, written_suffixes, written_arguments, written_field, written_more_fields, written_fields, written_statement, written_statements, written_arm, written_more_arms, written_arms, written_block, written_else, written_body}
 use Rattle.luf_tree.specs.SyntaxOf.{expressions_of, operations_of, suffixes_of, fields_of, statements_of, arms_of, optional_expression_of, optional_block_of, declared_of, first_of_path, rest_of_path, syntax_of_expr, syntax_of_block, syntax_of_stat, syntax_of_field, syntax_of_suffix, syntax_of_step, syntax_of_arm, syntax_of_args, syntax_of_body}
-use Rattle.luf_bare.specs.Bare.{Bare, Worded, words_of, words_at, before, bare_declared, bare_expression, bare_optional_expression, bare_expressions, bare_operations, bare_suffix, bare_suffixes, bare_arguments, bare_field, bare_fields, bare_statement, bare_statements, bare_arm, bare_arms, bare_block, bare_optional_block, bare_function_body, chosen_declared, chosen_expression, chosen_optional_expression, chosen_expressions, chosen_operations, chosen_suffix, chosen_suffixes, chosen_arguments, chosen_field, chosen_fields, chosen_statement, chosen_statements, chosen_arm, chosen_arms, chosen_block, chosen_optional_block, chosen_function_body}
+use Rattle.luf_bare.specs.Bare.{Bare, Worded, words_of, words_at, before, chosen_declared, chosen_expression, chosen_optional_expression, chosen_expressions, chosen_operations, chosen_suffix, chosen_suffixes, chosen_arguments, chosen_field, chosen_fields, chosen_statement, chosen_statements, chosen_arm, chosen_arms, chosen_block, chosen_optional_block, chosen_function_body}
 use Rattle.luf_bare.specs.Texts as w
 use Rattle.luf_bare.specs.Texts.{NoParenFirst, IsStringWord, WritesNames, WritesParams, WritesAttribute, WritesDeclared, WritesPath, WritesMethod, WritesSemicolon, WritesExpr, WritesSteps, WritesOperand, WritesSimple, WritesPrefix, WritesVariable, WritesCall, WritesParen, WritesHead, WritesSuffixes, WritesSuffix, WritesArgs, WritesExprs, WritesTable, WritesFields, WritesField, WritesFuncBody, WritesBlock, WritesStats, WritesReturn, WritesStat, WritesTargets, WritesArm, WritesArms, WritesElse, WritesForStep}
 use Rattle.luf_tree.proofs.SyntaxEquations.{nil_syntax, true_syntax, false_syntax, number_syntax, string_syntax, vararg_syntax, name_syntax, paren_syntax, function_syntax, table_syntax, unary_syntax, chain_syntax, power_syntax, suffixed_syntax, empty_syntax, local_syntax, assign_syntax, call_syntax, do_syntax, while_syntax, repeat_syntax, if_syntax, for_syntax, for_in_syntax, function_stat_syntax, local_function_syntax, label_syntax, goto_syntax, break_syntax, return_syntax, item_syntax, named_syntax, keyed_syntax, dot_syntax, index_syntax, call_suffix_syntax, method_syntax, step_of_syntax, arm_of_syntax, args_of_syntax, block_of_syntax, body_of_syntax}
@@ -34,10 +35,13 @@ use Rattle.luf_tree.proofs.SyntaxEquations.{nil_syntax, true_syntax, false_synta
 never : true ≡ false → ⊥
 never e = cc
 
-module _ {X : Type 0} (kind : X → Tok) (added : X → Bool) (put add : Tok → X) (keeps : (t : Tok) → (kind (put t) ≡ t) × (added (put t) ≡ false)) (adds : (t : Tok) → (kind (add t) ≡ t) × (added (add t) ≡ true)) (toks : List Tok) (says : ℕ → X) (kinds : (i : ℕ) (t : Tok) → slice_get toks i ≡ Some t → kind (says i) ≡ t) (says_kept : (i : ℕ) → added (says i) ≡ false) (trails : tokens.Span → Bool) (encloses : tokens.Span → Bool → Bool) where
+module _ {X : Type 0} (kind : X → Tok) (added : X → Bool) (put add : Tok → X) (keeps : (t : Tok) → (kind (put t) ≡ t) × (added (put t) ≡ false)) (adds : (t : Tok) → (kind (add t) ≡ t) × (added (add t) ≡ true)) (toks : List Tok) (says : ℕ → X) (kinds : (i : ℕ) (t : Tok) → slice_get toks i ≡ Some t → kind (says i) ≡ t) (says_kept : (i : ℕ) → added (says i) ≡ false) (trails : tokens.Span → Bool) (encloses : tokens.Expressions → Bool → Bool) where
   -- one word is added, and is a word of this token
   abbrev addition : Tok → List X
   addition t = add t ∷ []
+
+  abbrev standing : tokens.Expressions → Bool → Bool
+  standing = where_lone encloses
 
   abbrev decided_declared : List tokens.DeclaredName → List (syntax.DeclaredName (Worded tokens.Span X))
   decided_declared = map (chosen_declared (words_at says) encloses)
@@ -134,82 +138,82 @@ module _ {X : Type 0} (kind : X → Tok) (added : X → Bool) (put add : Tok →
   says_keeps {i} token = (kind_says token, says_kept i)
 
   abbrev ToldExpr : ℕ → tokens.Expression → Type 0
-  ToldExpr n s = WritesExpr kind added n (bare_expression (words_of says) s) (text_expression s)
+  ToldExpr n s = WritesExpr kind added n (chosen_expression (words_of says) standing s) (text_expression s)
 
   abbrev ToldSteps : ℕ → tokens.Operations → Type 0
-  ToldSteps m s = WritesSteps kind added m (bare_operations (words_of says) s) (text_operations s)
+  ToldSteps m s = WritesSteps kind added m (chosen_operations (words_of says) standing s) (text_operations s)
 
   abbrev ToldOperand : tokens.Expression → Type 0
-  ToldOperand s = WritesOperand kind added (bare_expression (words_of says) s) (text_expression s)
+  ToldOperand s = WritesOperand kind added (chosen_expression (words_of says) standing s) (text_expression s)
 
   abbrev ToldSimple : tokens.Expression → Type 0
-  ToldSimple s = WritesSimple kind added (bare_expression (words_of says) s) (text_expression s)
+  ToldSimple s = WritesSimple kind added (chosen_expression (words_of says) standing s) (text_expression s)
 
   abbrev ToldPrefix : tokens.Expression → Type 0
-  ToldPrefix s = WritesPrefix kind added (bare_expression (words_of says) s) (text_expression s)
+  ToldPrefix s = WritesPrefix kind added (chosen_expression (words_of says) standing s) (text_expression s)
 
   abbrev ToldVariable : tokens.Expression → Type 0
-  ToldVariable s = WritesVariable kind added (bare_expression (words_of says) s) (text_expression s)
+  ToldVariable s = WritesVariable kind added (chosen_expression (words_of says) standing s) (text_expression s)
 
   abbrev ToldCall : tokens.Expression → Type 0
-  ToldCall s = WritesCall kind added (bare_expression (words_of says) s) (text_expression s)
+  ToldCall s = WritesCall kind added (chosen_expression (words_of says) standing s) (text_expression s)
 
   abbrev ToldParen : tokens.Expression → Type 0
-  ToldParen s = WritesParen kind added (bare_expression (words_of says) s) (text_expression s)
+  ToldParen s = WritesParen kind added (chosen_expression (words_of says) standing s) (text_expression s)
 
   abbrev ToldHead : tokens.Expression → Type 0
-  ToldHead s = WritesHead kind added (bare_expression (words_of says) s) (text_expression s)
+  ToldHead s = WritesHead kind added (chosen_expression (words_of says) standing s) (text_expression s)
 
   abbrev ToldSuffixes : Bool → tokens.Suffixes → Type 0
-  ToldSuffixes calls s = WritesSuffixes kind added calls (bare_suffixes (words_of says) s) (text_suffixes s)
+  ToldSuffixes calls s = WritesSuffixes kind added calls (chosen_suffixes (words_of says) standing s) (text_suffixes s)
 
   abbrev ToldSuffix : Bool → tokens.Suffix → Type 0
-  ToldSuffix calls s = WritesSuffix kind added calls (bare_suffix (words_of says) s) (text_suffix s)
+  ToldSuffix calls s = WritesSuffix kind added calls (chosen_suffix (words_of says) standing s) (text_suffix s)
 
   abbrev ToldArgs : tokens.Arguments → Type 0
-  ToldArgs s = WritesArgs kind added (bare_arguments (words_of says) s) (text_arguments s)
+  ToldArgs s = WritesArgs kind added (chosen_arguments (words_of says) standing s) (text_arguments s)
 
   abbrev ToldExprs : tokens.Expressions → Type 0
-  ToldExprs s = WritesExprs kind added (bare_expressions (words_of says) s) (text_expressions s)
+  ToldExprs s = WritesExprs kind added (chosen_expressions (words_of says) standing s) (text_expressions s)
 
   abbrev ToldTable : Bool → tokens.Fields → Type 0
-  ToldTable trailing s = WritesTable kind added (bare_fields (words_of says) s) (put (Sign sign.LeftBrace) ∷ (text_fields trailing s ++ (put (Sign sign.RightBrace) ∷ [])))
+  ToldTable trailing s = WritesTable kind added (chosen_fields (words_of says) standing s) (put (Sign sign.LeftBrace) ∷ (text_fields trailing s ++ (put (Sign sign.RightBrace) ∷ [])))
 
   abbrev ToldFields : Bool → tokens.Fields → Type 0
-  ToldFields flag s = WritesFields kind added (bare_fields (words_of says) s) (text_fields flag s)
+  ToldFields flag s = WritesFields kind added (chosen_fields (words_of says) standing s) (text_fields flag s)
 
   abbrev ToldField : tokens.Field → Type 0
-  ToldField s = WritesField kind added (bare_field (words_of says) s) (text_field s)
+  ToldField s = WritesField kind added (chosen_field (words_of says) standing s) (text_field s)
 
   abbrev ToldFuncBody : tokens.FunctionBody → Type 0
-  ToldFuncBody s = WritesFuncBody kind added (bare_function_body (words_of says) s) (text_body s)
+  ToldFuncBody s = WritesFuncBody kind added (chosen_function_body (words_of says) standing s) (text_body s)
 
   abbrev ToldBlock : tokens.Block → Type 0
-  ToldBlock s = WritesBlock kind added (bare_block (words_of says) s) (text_block s)
+  ToldBlock s = WritesBlock kind added (chosen_block (words_of says) standing s) (text_block s)
 
   abbrev ToldStats : Bool → tokens.Statements → Type 0
-  ToldStats flag s = WritesStats kind added (bare_statements (words_of says) s) (text_statements flag s)
+  ToldStats flag s = WritesStats kind added (chosen_statements (words_of says) standing s) (text_statements flag s)
 
   abbrev ToldReturn : tokens.Statement → Type 0
-  ToldReturn s = SaidReturn (bare_statement (words_of says) s) (chosen_statement (words_at says) encloses s)
+  ToldReturn s = SaidReturn (chosen_statement (words_of says) standing s) (chosen_statement (words_at says) encloses s)
 
   abbrev ToldStat : tokens.Statement → Type 0
-  ToldStat s = Said (bare_statement (words_of says) s) (chosen_statement (words_at says) encloses s)
+  ToldStat s = Said (chosen_statement (words_of says) standing s) (chosen_statement (words_at says) encloses s)
 
   abbrev ToldTargets : tokens.Expressions → Type 0
-  ToldTargets s = WritesTargets kind added (bare_expressions (words_of says) s) (text_expressions s)
+  ToldTargets s = WritesTargets kind added (chosen_expressions (words_of says) standing s) (text_expressions s)
 
   abbrev ToldArm : tokens.Arm → Type 0
-  ToldArm s = WritesArm kind added (bare_arm (words_of says) s) (text_arm s)
+  ToldArm s = WritesArm kind added (chosen_arm (words_of says) standing s) (text_arm s)
 
   abbrev ToldArms : tokens.Arms → Type 0
-  ToldArms s = WritesArms kind added (bare_arms (words_of says) s) (text_arms s)
+  ToldArms s = WritesArms kind added (chosen_arms (words_of says) standing s) (text_arms s)
 
   abbrev ToldElse : tokens.OptionalBlock → Type 0
-  ToldElse s = WritesElse kind added (bare_optional_block (words_of says) s) (text_else s)
+  ToldElse s = WritesElse kind added (chosen_optional_block (words_of says) standing s) (text_else s)
 
   abbrev ToldForStep : tokens.OptionalExpression → Type 0
-  ToldForStep s = WritesForStep kind added (bare_optional_expression (words_of says) s) (text_for_step s)
+  ToldForStep s = WritesForStep kind added (chosen_optional_expression (words_of says) standing s) (text_for_step s)
 
   string_says : {i j : ℕ} → IsString toks i j → IsStringWord kind added (says i)
   string_says {i} (inl t) = (inl (kind_says t), says_kept i)
@@ -269,9 +273,9 @@ module _ {X : Type 0} (kind : X → Tok) (added : X → Bool) (put add : Tok →
   tell_attribute g.no_attribute = w.no_attribute
   tell_attribute (g.an_attribute _ t _) = w.an_attribute (keeps _) (says_keeps t) (keeps _)
 
-  tell_declared : {i k : ℕ} {ds : List Declared} → AreDeclared toks i k ds → WritesDeclared kind added (map (bare_declared (words_of says)) (map declared_of ds)) (text_declared (map declared_of ds))
+  tell_declared : {i k : ℕ} {ds : List Declared} → AreDeclared toks i k ds → WritesDeclared kind added (map (chosen_declared (words_of says) standing) (map declared_of ds)) (text_declared (map declared_of ds))
   tell_declared (g.one_declared t a) = w.one_declared (says_keeps t) (tell_attribute a)
-  tell_declared (g.more_declared {i} {a} {declared} t d_a _ d) = subst (λ z. WritesDeclared kind added (map (bare_declared (words_of says)) (map declared_of (record { name = i; attribute = a } ∷ declared))) z) (sym (comma_declared (record { name = i; attribute = a }) d)) (w.more_declared (says_keeps t) (tell_attribute d_a) (keeps _) (tell_declared d))
+  tell_declared (g.more_declared {i} {a} {declared} t d_a _ d) = subst (λ z. WritesDeclared kind added (map (chosen_declared (words_of says) standing) (map declared_of (record { name = i; attribute = a } ∷ declared))) z) (sym (comma_declared (record { name = i; attribute = a }) d)) (w.more_declared (says_keeps t) (tell_attribute d_a) (keeps _) (tell_declared d))
 
   tell_path : {i k : ℕ} {path : List ℕ} → IsPath toks i k path → WritesPath kind added (map says path) (text_path (first_of_path path) (rest_of_path path))
   tell_path (g.path_end t) = w.path_end (says_keeps t)
@@ -291,13 +295,13 @@ module _ {X : Type 0} (kind : X → Tok) (added : X → Bool) (put add : Tok →
   last_told true told = w.more_fields told (inl (adds _).0, (adds _).1) w.no_fields
   last_told false {f} told = subst (WritesFields kind added (syntax.more_fields f syntax.no_fields)) (sym (append-nil _)) (w.last_field told)
 
-  more_told : (trailing : Bool) (fields : tokens.Fields) {f : syntax.Field (Bare X)} {words : List X} → WritesField kind added f words → WritesFields kind added (bare_fields (words_of says) fields) (text_fields trailing fields) → WritesFields kind added (syntax.more_fields f (bare_fields (words_of says) fields)) (words ++ text_more_fields trailing fields)
+  more_told : (trailing : Bool) (fields : tokens.Fields) {f : syntax.Field (Bare X)} {words : List X} → WritesField kind added f words → WritesFields kind added (chosen_fields (words_of says) standing fields) (text_fields trailing fields) → WritesFields kind added (syntax.more_fields f (chosen_fields (words_of says) standing fields)) (words ++ text_more_fields trailing fields)
   more_told trailing syntax.no_fields told rest = last_told trailing told
   more_told trailing (syntax.more_fields first others) told rest = w.more_fields told (inl (adds _).0, (adds _).1) rest
 
   -- ---- lone arguments
 
-  lone_simple : {b : syntax.Expression (Bare X)} {words : List X} → WritesSimple kind added b words → is_lone_item b ≡ true → WritesArgs kind added (syntax.arguments tt true (syntax.more_expressions b syntax.no_expressions)) words
+  lone_simple : {b : syntax.Expression (Bare X)} {words : List X} → WritesSimple kind added b words → is_lone_item b ≡ true → WritesArgs kind added (syntax.arguments tt false (syntax.more_expressions b syntax.no_expressions)) words
   lone_simple (w.string_simple t) lone = w.string_args t
   lone_simple (w.table_simple t) lone = w.table_args t
   lone_simple (w.prefix_simple (w.variable_prefix (w.name_variable _))) lone = absurd cc
@@ -306,34 +310,34 @@ module _ {X : Type 0} (kind : X → Tok) (added : X → Bool) (put add : Tok →
   lone_simple (w.prefix_simple (w.paren_prefix (w.paren _ _ _))) lone = absurd cc
   lone_simple _ lone = absurd cc
 
-  lone_expr : {n : ℕ} {b : syntax.Expression (Bare X)} {words : List X} → WritesExpr kind added n b words → is_lone_item b ≡ true → WritesArgs kind added (syntax.arguments tt true (syntax.more_expressions b syntax.no_expressions)) words
+  lone_expr : {n : ℕ} {b : syntax.Expression (Bare X)} {words : List X} → WritesExpr kind added n b words → is_lone_item b ≡ true → WritesArgs kind added (syntax.arguments tt false (syntax.more_expressions b syntax.no_expressions)) words
   lone_expr (w.operand_expr (w.simple_operand e)) lone = lone_simple e lone
   lone_expr (w.operand_expr (w.unary_operand _ _)) lone = absurd cc
   lone_expr (w.operand_expr (w.power_operand _ _ _)) lone = absurd cc
   lone_expr (w.chain_expr _ _ _ _) lone = absurd cc
 
-  lone_words : {b : syntax.Expressions (Bare X)} {words : List X} → WritesExprs kind added b words → is_lone b ≡ true → WritesArgs kind added (syntax.arguments tt true b) words
+  lone_words : {b : syntax.Expressions (Bare X)} {words : List X} → WritesExprs kind added b words → is_lone b ≡ true → WritesArgs kind added (syntax.arguments tt false b) words
   lone_words (w.one_expr e) lone = lone_expr e lone
   lone_words (w.more_exprs _ _ (w.one_expr _)) lone = absurd cc
   lone_words (w.more_exprs _ _ (w.more_exprs _ _ _)) lone = absurd cc
 
-  lone_item_bare : (e : tokens.Expression) → is_lone_item (bare_expression (words_of says) e) ≡ is_lone_item (chosen_expression (words_at says) encloses e)
-  lone_item_bare (syntax.string _ _) = refl
-  lone_item_bare (syntax.table _ _) = refl
-  lone_item_bare _ = refl
+  enclose_by : (items : tokens.Expressions) (wanted lone : Bool) → is_lone items ≡ lone → ToldExprs items
+      → WritesArgs kind added (syntax.arguments tt (items_enclosed wanted wanted items) (chosen_expressions (words_of says) standing items)) (enclosed kind put addition trails lone wanted (text_expressions items))
+  enclose_by items wanted false is told =
+      subst (λ b. WritesArgs kind added (syntax.arguments tt b (chosen_expressions (words_of says) standing items)) (enclosed kind put addition trails false wanted (text_expressions items))) (sym (others_enclosed wanted wanted items is))
+      (w.list_args (keeps _) told (keeps _) (lone_chosen (words_of says) standing items ∙ is))
+  enclose_by items true true is told =
+      subst (λ b. WritesArgs kind added (syntax.arguments tt b (chosen_expressions (words_of says) standing items)) (enclosed kind put addition trails true true (text_expressions items))) (sym (lone_enclosed true items is))
+      (w.lone_args (adds _) told (adds _) (lone_chosen (words_of says) standing items ∙ is))
+  enclose_by items false true is told =
+      subst (λ b. WritesArgs kind added (syntax.arguments tt b (chosen_expressions (words_of says) standing items)) (enclosed kind put addition trails true false (text_expressions items))) (sym (lone_enclosed false items is))
+      (lone_words told (lone_chosen (words_of says) standing items ∙ is))
 
-  lone_bare : (es : tokens.Expressions) → is_lone (bare_expressions (words_of says) es) ≡ is_lone (chosen_expressions (words_at says) encloses es)
-  lone_bare syntax.no_expressions = refl
-  lone_bare (syntax.more_expressions e syntax.no_expressions) = lone_item_bare e
-  lone_bare (syntax.more_expressions e (syntax.more_expressions f rest)) = refl
-
-  enclose_by : (items : tokens.Expressions) (wanted lone : Bool) → is_lone (bare_expressions (words_of says) items) ≡ lone → WritesExprs kind added (bare_expressions (words_of says) items) (text_expressions items) → WritesArgs kind added (syntax.arguments tt true (bare_expressions (words_of says) items)) (enclosed kind put addition trails lone wanted (text_expressions items))
-  enclose_by items wanted false is told = w.list_args (keeps _) told (keeps _) is
-  enclose_by items true true is told = w.lone_args (adds _) told (adds _) is
-  enclose_by items false true is told = lone_words told is
-
-  enclose : (items : tokens.Expressions) (wanted : Bool) → WritesExprs kind added (bare_expressions (words_of says) items) (text_expressions items) → WritesArgs kind added (syntax.arguments tt true (bare_expressions (words_of says) items)) (enclosed kind put addition trails (is_lone (chosen_expressions (words_at says) encloses items)) wanted (text_expressions items))
-  enclose items wanted told = enclose_by items wanted (is_lone (chosen_expressions (words_at says) encloses items)) (lone_bare items) told
+  enclose : (items : tokens.Expressions) (had : Bool) → ToldExprs items
+      → WritesArgs kind added (syntax.arguments tt (standing items had) (chosen_expressions (words_of says) standing items)) (enclosed kind put addition trails (is_lone (chosen_expressions (words_at says) encloses items)) (encloses items had) (text_expressions items))
+  enclose items had told =
+      subst (λ b. WritesArgs kind added (syntax.arguments tt (standing items had) (chosen_expressions (words_of says) standing items)) (enclosed kind put addition trails b (encloses items had) (text_expressions items))) (sym (lone_chosen (words_at says) encloses items))
+      (enclose_by items (encloses items had) (is_lone items) refl told)
 
   -- ---- guards
 
@@ -368,7 +372,7 @@ module _ {X : Type 0} (kind : X → Tok) (added : X → Bool) (put add : Tok →
   last_said : (others : Bool) {b : Option (syntax.Statement (Bare X))} {s : Option (syntax.Statement (Worded tokens.Span X))} → SaidReturn b s → WritesStats kind added (before b syntax.no_statements) (written_statements kind put addition trails others (before s syntax.no_statements))
   last_said others (said_return {b} {s} told) = after_guard_stats others (written_statement kind put addition trails s) _ (subst (WritesStats kind added (syntax.more_statements b syntax.no_statements)) (sym (append-nil (written_statement kind put addition trails s))) (w.last_stat told))
 
-  then_said : (others : Bool) (rest : tokens.Statements) {b : Option (syntax.Statement (Bare X))} {s : Option (syntax.Statement (Worded tokens.Span X))} → Said b s → ((before_rest : Bool) → WritesStats kind added (bare_statements (words_of says) rest) (text_statements before_rest rest)) → WritesStats kind added (before b (bare_statements (words_of says) rest)) (written_statements kind put addition trails others (before s (chosen_statements (words_at says) encloses rest)))
+  then_said : (others : Bool) (rest : tokens.Statements) {b : Option (syntax.Statement (Bare X))} {s : Option (syntax.Statement (Worded tokens.Span X))} → Said b s → ((before_rest : Bool) → WritesStats kind added (chosen_statements (words_of says) standing rest) (text_statements before_rest rest)) → WritesStats kind added (before b (chosen_statements (words_of says) standing rest)) (written_statements kind put addition trails others (before s (chosen_statements (words_at says) encloses rest)))
   then_said others rest silent told = told others
   then_said others rest (said {s} stat) told = after_guard_stats others (written_statement kind put addition trails s) _ (w.more_stats stat (later_shut rest) (told true))
 
@@ -378,7 +382,7 @@ module _ {X : Type 0} (kind : X → Tok) (added : X → Bool) (put add : Tok →
     tell_expr (g.chain_expr {n} {i} {k} {first} {rest} pos le d_e d_rest) = subst (ToldExpr n) (sym (chain_syntax i k first rest)) (w.chain_expr pos le (tell_expr d_e) (tell_steps d_rest))
 
     tell_steps : {m : ℕ} {i k : ℕ} {x : List Step} → AreSteps toks m i k x → ToldSteps m (operations_of (map syntax_of_step x))
-    tell_steps (g.one_step {m} {i} {e} t_x operator_x d_e) = subst (ToldSteps m) (ap (λ z. syntax.more_operations z syntax.no_operations) (sym (step_of_syntax i e))) (subst (λ z. WritesSteps kind added m (syntax.more_operations (syntax.operation (says i) (bare_expression (words_of says) (syntax_of_expr e))) syntax.no_operations) (says i ∷ z)) (sym (append-nil _)) (w.one_step (ap binary_precedence (kind_says t_x) ∙ operator_x, says_kept _) (tell_expr d_e)))
+    tell_steps (g.one_step {m} {i} {e} t_x operator_x d_e) = subst (ToldSteps m) (ap (λ z. syntax.more_operations z syntax.no_operations) (sym (step_of_syntax i e))) (subst (λ z. WritesSteps kind added m (syntax.more_operations (syntax.operation (says i) (chosen_expression (words_of says) standing (syntax_of_expr e))) syntax.no_operations) (says i ∷ z)) (sym (append-nil _)) (w.one_step (ap binary_precedence (kind_says t_x) ∙ operator_x, says_kept _) (tell_expr d_e)))
     tell_steps (g.more_steps {m} {i} {e} {rest} t_x operator_x d_e d_rest) = subst (ToldSteps m) (ap (λ z. syntax.more_operations z (operations_of (map syntax_of_step rest))) (sym (step_of_syntax i e))) (w.more_steps (ap binary_precedence (kind_says t_x) ∙ operator_x, says_kept _) (tell_expr d_e) (tell_steps d_rest))
 
     tell_operand : {i k : ℕ} {x : Expr} → IsOperand toks i k x → ToldOperand (syntax_of_expr x)
@@ -417,7 +421,7 @@ module _ {X : Type 0} (kind : X → Tok) (added : X → Bool) (put add : Tok →
     tell_head (g.paren_head d_e) = w.paren_head (tell_paren d_e)
 
     tell_suffixes : {calls : Bool} {i k : ℕ} {x : List Suffix} → AreSuffixes toks calls i k x → ToldSuffixes calls (suffixes_of (map syntax_of_suffix x))
-    tell_suffixes (g.one_suffix {calls} {s} d_s) = subst (λ z. WritesSuffixes kind added calls (syntax.more_suffixes (bare_suffix (words_of says) (syntax_of_suffix s)) syntax.no_suffixes) z) (sym (append-nil _)) (w.one_suffix (tell_suffix d_s))
+    tell_suffixes (g.one_suffix {calls} {s} d_s) = subst (λ z. WritesSuffixes kind added calls (syntax.more_suffixes (chosen_suffix (words_of says) standing (syntax_of_suffix s)) syntax.no_suffixes) z) (sym (append-nil _)) (w.one_suffix (tell_suffix d_s))
     tell_suffixes (g.more_suffixes d_s d_rest) = w.more_suffixes (tell_suffix d_s) (tell_suffixes d_rest)
 
     tell_suffix : {calls : Bool} {i k : ℕ} {x : Suffix} → IsSuffix toks calls i k x → ToldSuffix calls (syntax_of_suffix x)
@@ -428,13 +432,13 @@ module _ {X : Type 0} (kind : X → Tok) (added : X → Bool) (put add : Tok →
 
     tell_args : {i k : ℕ} {x : Args} → IsArgs toks i k x → ToldArgs (syntax_of_args x)
     tell_args (g.no_args {i} {k} _ _) = subst ToldArgs (sym (args_of_syntax i k true [])) (w.no_args (keeps _) (keeps _))
-    tell_args (g.list_args {i} {l} {es} _ d_es _) = subst ToldArgs (sym (args_of_syntax i l true es)) (enclose (expressions_of (map syntax_of_expr es)) (encloses (from_to i l) true) (tell_exprs d_es))
-    tell_args (g.string_args {i} {j} t_x) = subst ToldArgs (sym (args_of_syntax i j false (expression i j expr.Str ∷ []) ∙ ap (λ z. syntax.arguments (from_to i j) false (syntax.more_expressions z syntax.no_expressions)) (string_syntax i j))) (enclose (syntax.more_expressions (syntax.string (from_to i j) i) syntax.no_expressions) (encloses (from_to i j) false) (w.one_expr (w.operand_expr (w.simple_operand (w.string_simple (string_says t_x))))))
-    tell_args (g.table_args {i} {j} {fields} d) = subst ToldArgs (sym (args_of_syntax i j false (expression i j (expr.Table fields) ∷ []) ∙ ap (λ z. syntax.arguments (from_to i j) false (syntax.more_expressions z syntax.no_expressions)) (table_syntax i j fields))) (enclose (syntax.more_expressions (syntax.table (from_to i j) (fields_of (map syntax_of_field fields))) syntax.no_expressions) (encloses (from_to i j) false) (subst (λ z. WritesExprs kind added (syntax.more_expressions (syntax.table tt (bare_fields (words_of says) (fields_of (map syntax_of_field fields)))) syntax.no_expressions) z) (sym (append-nil _)) (w.one_expr (w.operand_expr (w.simple_operand (w.table_simple (tell_table (trails (from_to i j)) d)))))))
+    tell_args (g.list_args {i} {l} {es} _ d_es _) = subst ToldArgs (sym (args_of_syntax i l true es)) (enclose (expressions_of (map syntax_of_expr es)) true (tell_exprs d_es))
+    tell_args (g.string_args {i} {j} t_x) = subst ToldArgs (sym (args_of_syntax i j false (expression i j expr.Str ∷ []) ∙ ap (λ z. syntax.arguments (from_to i j) false (syntax.more_expressions z syntax.no_expressions)) (string_syntax i j))) (enclose (syntax.more_expressions (syntax.string (from_to i j) i) syntax.no_expressions) false (w.one_expr (w.operand_expr (w.simple_operand (w.string_simple (string_says t_x))))))
+    tell_args (g.table_args {i} {j} {fields} d) = subst ToldArgs (sym (args_of_syntax i j false (expression i j (expr.Table fields) ∷ []) ∙ ap (λ z. syntax.arguments (from_to i j) false (syntax.more_expressions z syntax.no_expressions)) (table_syntax i j fields))) (enclose (syntax.more_expressions (syntax.table (from_to i j) (fields_of (map syntax_of_field fields))) syntax.no_expressions) false (subst (λ z. WritesExprs kind added (syntax.more_expressions (syntax.table tt (chosen_fields (words_of says) standing (fields_of (map syntax_of_field fields)))) syntax.no_expressions) z) (sym (append-nil _)) (w.one_expr (w.operand_expr (w.simple_operand (w.table_simple (tell_table (trails (from_to i j)) d)))))))
 
     tell_exprs : {i k : ℕ} {x : List Expr} → AreExprs toks i k x → ToldExprs (expressions_of (map syntax_of_expr x))
-    tell_exprs (g.one_expr {e} d_e) = subst (λ z. WritesExprs kind added (syntax.more_expressions (bare_expression (words_of says) (syntax_of_expr e)) syntax.no_expressions) z) (sym (append-nil _)) (w.one_expr (tell_expr d_e))
-    tell_exprs (g.more_exprs {e} {es} d_e _ d_es) = subst (λ z. WritesExprs kind added (bare_expressions (words_of says) (expressions_of (map syntax_of_expr (e ∷ es)))) (text_expression (syntax_of_expr e) ++ z)) (sym (comma_exprs d_es)) (w.more_exprs (tell_expr d_e) (keeps _) (tell_exprs d_es))
+    tell_exprs (g.one_expr {e} d_e) = subst (λ z. WritesExprs kind added (syntax.more_expressions (chosen_expression (words_of says) standing (syntax_of_expr e)) syntax.no_expressions) z) (sym (append-nil _)) (w.one_expr (tell_expr d_e))
+    tell_exprs (g.more_exprs {e} {es} d_e _ d_es) = subst (λ z. WritesExprs kind added (chosen_expressions (words_of says) standing (expressions_of (map syntax_of_expr (e ∷ es)))) (text_expression (syntax_of_expr e) ++ z)) (sym (comma_exprs d_es)) (w.more_exprs (tell_expr d_e) (keeps _) (tell_exprs d_es))
 
     tell_table : {i k : ℕ} {x : List Field} → (flag : Bool) → IsTable toks i k x → ToldTable flag (fields_of (map syntax_of_field x))
     tell_table flag (g.table _ d_fields _) = w.table (keeps _) (tell_fields flag d_fields) (keeps _)
@@ -462,11 +466,11 @@ module _ {X : Type 0} (kind : X → Tok) (added : X → Bool) (put add : Tok →
 
     tell_return : {i k : ℕ} {x : Stat} → IsReturn toks i k x → ToldReturn (syntax_of_stat x)
     tell_return (g.return_nothing {i} {k} _ _) = subst (ToldReturn) (sym (return_syntax i k [])) (said_return (w.return_nothing (keeps _) w.no_semicolon))
-    tell_return (g.return_values {i} {l} {es} _ d_es _) = subst ToldReturn (sym (return_syntax i l es)) (said_return (subst (λ z. WritesReturn kind added (syntax.return_statement tt (bare_expressions (words_of says) (expressions_of (map syntax_of_expr es)))) (put (Word word.Return) ∷ z)) (append-nil _) (w.return_values (keeps _) (tell_exprs d_es) w.no_semicolon)))
+    tell_return (g.return_values {i} {l} {es} _ d_es _) = subst ToldReturn (sym (return_syntax i l es)) (said_return (subst (λ z. WritesReturn kind added (syntax.return_statement tt (chosen_expressions (words_of says) standing (expressions_of (map syntax_of_expr es)))) (put (Word word.Return) ∷ z)) (append-nil _) (w.return_values (keeps _) (tell_exprs d_es) w.no_semicolon)))
 
     tell_stat : {i k : ℕ} {x : Stat} → IsStat toks i k x → ToldStat (syntax_of_stat x)
     tell_stat (g.local_stat {i} {k} {declared} _ d_declared) = subst (ToldStat) (sym (local_syntax i k declared [])) (said (w.local_stat (keeps _) (tell_declared d_declared)))
-    tell_stat (g.local_values_stat {i} {o} {declared} {es} _ d_declared _ d_es) = subst ToldStat (sym (local_syntax i o declared es)) (said (subst (λ z. WritesStat kind added (syntax.local_statement tt (map (bare_declared (words_of says)) (map declared_of declared)) (bare_expressions (words_of says) (expressions_of (map syntax_of_expr es)))) z) (sym (local_values (from_to i o) (decided_declared (map declared_of declared)) d_es)) (w.local_values_stat (keeps _) (tell_declared d_declared) (keeps _) (tell_exprs d_es))))
+    tell_stat (g.local_values_stat {i} {o} {declared} {es} _ d_declared _ d_es) = subst ToldStat (sym (local_syntax i o declared es)) (said (subst (λ z. WritesStat kind added (syntax.local_statement tt (map (chosen_declared (words_of says) standing) (map declared_of declared)) (chosen_expressions (words_of says) standing (expressions_of (map syntax_of_expr es)))) z) (sym (local_values (from_to i o) (decided_declared (map declared_of declared)) d_es)) (w.local_values_stat (keeps _) (tell_declared d_declared) (keeps _) (tell_exprs d_es))))
     tell_stat (g.assign_stat {i} {l} {targets} {es} d_targets _ d_es) = subst (ToldStat) (sym (assign_syntax i l targets es)) (said (w.assign_stat (tell_targets d_targets) (keeps _) (tell_exprs d_es)))
     tell_stat (g.call_stat {i} {j} {e} d_e _) = subst (ToldStat) (sym (call_syntax i j e)) (said (w.call_stat (tell_call d_e)))
     tell_stat (g.do_stat {i} {l} {body} _ d_body _) = subst (ToldStat) (sym (do_syntax i l body)) (said (w.do_stat (keeps _) (tell_block d_body) (keeps _)))
@@ -483,15 +487,15 @@ module _ {X : Type 0} (kind : X → Tok) (added : X → Bool) (put add : Tok →
     tell_stat (g.empty_stat {i} {j} _) = subst ToldStat (sym (empty_syntax i j)) silent
 
     tell_targets : {i k : ℕ} {x : List Expr} → AreTargets toks i k x → ToldTargets (expressions_of (map syntax_of_expr x))
-    tell_targets (g.one_target {e} d_e) = subst (λ z. WritesTargets kind added (syntax.more_expressions (bare_expression (words_of says) (syntax_of_expr e)) syntax.no_expressions) z) (sym (append-nil _)) (w.one_target (tell_variable d_e))
-    tell_targets (g.more_targets {e} {targets} d_e _ d_es) = subst (λ z. WritesTargets kind added (bare_expressions (words_of says) (expressions_of (map syntax_of_expr (e ∷ targets)))) (text_expression (syntax_of_expr e) ++ z)) (sym (comma_targets d_es)) (w.more_targets (tell_variable d_e) (keeps _) (tell_targets d_es))
+    tell_targets (g.one_target {e} d_e) = subst (λ z. WritesTargets kind added (syntax.more_expressions (chosen_expression (words_of says) standing (syntax_of_expr e)) syntax.no_expressions) z) (sym (append-nil _)) (w.one_target (tell_variable d_e))
+    tell_targets (g.more_targets {e} {targets} d_e _ d_es) = subst (λ z. WritesTargets kind added (chosen_expressions (words_of says) standing (expressions_of (map syntax_of_expr (e ∷ targets)))) (text_expression (syntax_of_expr e) ++ z)) (sym (comma_targets d_es)) (w.more_targets (tell_variable d_e) (keeps _) (tell_targets d_es))
 
     tell_arm : {i k : ℕ} {x : Arm} → IsArm toks i k x → ToldArm (syntax_of_arm x)
     tell_arm (g.arm {e} {body} d_e _ d_body) = subst (ToldArm) (sym (arm_of_syntax e body)) (w.arm (tell_expr d_e) (keeps _) (tell_block d_body))
 
     tell_arms : {i k : ℕ} {x : List Arm} → AreArms toks i k x → ToldArms (arms_of (map syntax_of_arm x))
-    tell_arms (g.one_arm {first} d_e) = subst (λ z. WritesArms kind added (syntax.more_arms (bare_arm (words_of says) (syntax_of_arm first)) syntax.no_arms) z) (sym (append-nil _)) (w.one_arm (tell_arm d_e))
-    tell_arms (g.more_arms {first} {arms} d_e _ d_es) = subst (λ z. WritesArms kind added (bare_arms (words_of says) (arms_of (map syntax_of_arm (first ∷ arms)))) (text_arm (syntax_of_arm first) ++ z)) (sym (elseif_arms d_es)) (w.more_arms (tell_arm d_e) (keeps _) (tell_arms d_es))
+    tell_arms (g.one_arm {first} d_e) = subst (λ z. WritesArms kind added (syntax.more_arms (chosen_arm (words_of says) standing (syntax_of_arm first)) syntax.no_arms) z) (sym (append-nil _)) (w.one_arm (tell_arm d_e))
+    tell_arms (g.more_arms {first} {arms} d_e _ d_es) = subst (λ z. WritesArms kind added (chosen_arms (words_of says) standing (arms_of (map syntax_of_arm (first ∷ arms)))) (text_arm (syntax_of_arm first) ++ z)) (sym (elseif_arms d_es)) (w.more_arms (tell_arm d_e) (keeps _) (tell_arms d_es))
 
     tell_else : {i k : ℕ} {x : Option Block} → IsElse toks i k x → ToldElse (optional_block_of (option_map syntax_of_block x))
     tell_else g.no_else = w.no_else

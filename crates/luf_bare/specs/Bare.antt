@@ -26,15 +26,19 @@ words_at says = record { span = λ s. s; name = says; label = says; leaf = says 
 abbrev pub always : {S : Type 0} → S → Bool → Bool
 always _ _ = true
 
+-- as it is here
+abbrev pub as_here : {S : Type 0} → S → Bool → Bool
+as_here _ had = had
+
 -- a statement, if it is one of the program, and those behind it
 abbrev pub before : {M : syntax.Shape} → Option (syntax.Statement M) → syntax.Statements M → syntax.Statements M
 before None rest = rest
 before (Some s) rest = syntax.more_statements s rest
 
--- ---- with a choice for each list of arguments whether a lone one stands in parentheses, by its span and by whether
--- it does so here
+-- ---- with a choice for each list of arguments whether it stands in parentheses, by its items and by whether it does
+-- so here
 
-module _ {K M : syntax.Shape} (f : ShapeMap K M) (encloses : K.Span → Bool → Bool) where
+module _ {K M : syntax.Shape} (f : ShapeMap K M) (encloses : syntax.Expressions K → Bool → Bool) where
   abbrev pub chosen_declared : syntax.DeclaredName K → syntax.DeclaredName M
   chosen_declared d = record { name = f.name d.name; attribute = option_map f.leaf d.attribute }
 
@@ -82,7 +86,7 @@ module _ {K M : syntax.Shape} (f : ShapeMap K M) (encloses : K.Span → Bool →
     chosen_suffixes (syntax.more_suffixes first rest) = syntax.more_suffixes (chosen_suffix first) (chosen_suffixes rest)
 
     pub chosen_arguments : syntax.Arguments K → syntax.Arguments M
-    chosen_arguments (syntax.arguments span parentheses items) = syntax.arguments (f.span span) (encloses span parentheses) (chosen_expressions items)
+    chosen_arguments (syntax.arguments span parentheses items) = syntax.arguments (f.span span) (encloses items parentheses) (chosen_expressions items)
 
     pub chosen_field : syntax.Field K → syntax.Field M
     chosen_field (syntax.item_field value) = syntax.item_field (chosen_expression value)
@@ -197,3 +201,7 @@ module _ {K M : syntax.Shape} (f : ShapeMap K M) where
 
   abbrev pub bare_function_body : syntax.FunctionBody K → syntax.FunctionBody M
   bare_function_body = chosen_function_body f always
+
+-- the bare program of a program whose words stand in it
+abbrev pub bare_of : {X : Type 0} → syntax.Block (Bare X) → syntax.Block (Bare X)
+bare_of program = bare_block (record { span = λ s. s; name = λ x. x; label = λ x. x; leaf = λ x. x }) program

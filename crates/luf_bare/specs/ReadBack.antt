@@ -9,7 +9,7 @@ use Rattle.luf_tree.specs.Syntax as syntax
 use Rattle.luf_tree.specs.SyntaxMap.{ShapeMap}
 use Rattle.luf_tree.specs.TokenSyntax as tokens
 use Rattle.luf_tree.specs.SyntaxOf.{syntax_of}
-use Rattle.luf_bare.specs.Bare.{Bare, words_of, words_at, bare_block, chosen_block}
+use Rattle.luf_bare.specs.Bare.{Bare, words_of, words_at, as_here, bare_block, bare_of, chosen_block}
 use Rattle.luf_bare.specs.Dropped.{if_dropped, dropped_block}
 use Rattle.luf_bare.specs.Significant.{IsFixed, significant}
 use Rattle.luf_bare.specs.Writing.{written_block}
@@ -53,6 +53,10 @@ additions added i (word ∷ text) = if_dropped (added word) i (additions added (
 abbrev pub program : List SpelledToken → Chunk → syntax.Block (Bare TextWord)
 program source chunk = bare_block (words_of (λ i. own_word (spelled_at source i))) (syntax_of chunk)
 
+-- with parentheses round the arguments that are enclosed, by the items and by whether they stand in parentheses in the source
+abbrev pub program_with : (tokens.Expressions → Bool → Bool) → List SpelledToken → Chunk → syntax.Block (Bare TextWord)
+program_with encloses source chunk = chosen_block (words_of (λ i. own_word (spelled_at source i))) encloses (syntax_of chunk)
+
 -- the significant tokens of a chunk of so many tokens, with what stands at each place
 abbrev pub significant_words : (ℕ → SpelledToken) → ℕ → Chunk → List SpelledToken
 significant_words says n chunk = map says (significant (syntax_of chunk) n)
@@ -66,8 +70,8 @@ abbrev pub spelled_by : (Tok → List ℕ) → Tok → SpelledToken
 spelled_by spell token = record { token = token; spelling = spell token }
 
 -- What is written of a chunk: with a separator behind the last field of the tables that trail, and parentheses round
--- the lone arguments that are enclosed, by the span and by whether they stand in parentheses in the source.
-abbrev pub text_of : (Tok → List ℕ) → List SpelledToken → (tokens.Span → Bool) → (tokens.Span → Bool → Bool) → Chunk → List TextWord
+-- the lone arguments that are enclosed.
+abbrev pub text_of : (Tok → List ℕ) → List SpelledToken → (tokens.Span → Bool) → (tokens.Expressions → Bool → Bool) → Chunk → List TextWord
 text_of spell source trails encloses chunk =
     written_block token_of (λ t. own_word (spelled_by spell t)) (λ t. added_word (spelled_by spell t) ∷ []) trails (chosen_block (words_at (λ i. own_word (spelled_at source i))) encloses (syntax_of chunk))
 
@@ -78,8 +82,13 @@ pub record IsRead (text : List TextWord) (bare : syntax.Block (Bare TextWord)) :
   pub same : bare_block (words_of (word_at text)) (syntax_of tree) ≡ bare
   pub drops : dropped_block (syntax_of tree) [] ≡ additions is_added 0 text
 
+-- and the arguments of the tree stand in parentheses where those of this program do: this is the program of the tree
+pub record IsReadAs (text : List TextWord) (written : syntax.Block (Bare TextWord)) : Type 0 where
+  pub read : IsRead text (bare_of written)
+  pub same : chosen_block (words_of (word_at text)) as_here (syntax_of read.tree) ≡ written
+
 abbrev pub TextIsRead : Type 0
-TextIsRead = (bare : syntax.Block (Bare TextWord)) (text : List TextWord) → WritesBlock token_of is_added bare text → IsRead text bare
+TextIsRead = (written : syntax.Block (Bare TextWord)) (text : List TextWord) → WritesBlock token_of is_added written text → IsReadAs text written
 
 -- the text is read as the program of the source, and the significant tokens of both are the same, in order and in
 -- spelling
@@ -89,7 +98,7 @@ pub record IsReadBack (source : List SpelledToken) (chunk : Chunk) (text : List 
 
 abbrev pub WrittenIsRead : Type 0
 WrittenIsRead =
-    (spell : Tok → List ℕ) (source : List SpelledToken) (chunk : Chunk) (trails : tokens.Span → Bool) (encloses : tokens.Span → Bool → Bool)
+    (spell : Tok → List ℕ) (source : List SpelledToken) (chunk : Chunk) (trails : tokens.Span → Bool) (encloses : tokens.Expressions → Bool → Bool)
     → IsChunk (map (λ (w : SpelledToken). w.token) source) chunk → AreSpelled spell source → IsReadBack source chunk (text_of spell source trails encloses chunk)
 
 -- the significant tokens are what is written of the bare program with nothing added

@@ -1,6 +1,7 @@
--- The texts of a bare program: the grammar once more, by joining and with no places. `Writes.. b words` says that
--- these words, one for each token, are a text of the bare part `b`. A text is free in what the bare program leaves
--- open: empty statements, the `;` of a return, separators of fields and a last one, the form of a lone argument.
+-- The texts of a program: the grammar once more, by joining and with no places. `Writes.. b words` says that these
+-- words, one for each token, are a text of the part `b`, which is of a bare program but for its arguments: they tell
+-- whether they stand in parentheses in this text, as all but a lone one have to. A text is free in what `b` leaves open:
+-- empty statements, the `;` of a return, separators of fields and a last one.
 -- No statement that others precede in its block begins with `(`: a `;` stands before it (Lua 5.4 manual, 3.3.1).
 use Rattle.std.specs.Prelude.{◌≡◌, ℕ, ◌+◌, ◌<◌, ◌≤◌, ◌⊎◌, Bool, true, false, Option, Some, None, List, [], ◌∷◌, ◌++◌}
 use Rattle.luf_lex.specs.declared.token.Tok.{Tok}
@@ -174,9 +175,9 @@ module _ {X : Type 0} (kind : X → Tok) (added : X → Bool) where
           → WritesExprs es es_words → Adds right (Sign sign.RightParen) → is_lone es ≡ true
           → WritesArgs (syntax.arguments tt true es) (left ∷ (es_words ++ (right ∷ [])))
       string_args : {string : X} → IsStringWord string
-          → WritesArgs (syntax.arguments tt true (syntax.more_expressions (syntax.string tt string) syntax.no_expressions)) (string ∷ [])
+          → WritesArgs (syntax.arguments tt false (syntax.more_expressions (syntax.string tt string) syntax.no_expressions)) (string ∷ [])
       table_args : {fields : syntax.Fields (Bare X)} {fields_words : List X} → WritesTable fields fields_words
-          → WritesArgs (syntax.arguments tt true (syntax.more_expressions (syntax.table tt fields) syntax.no_expressions)) fields_words
+          → WritesArgs (syntax.arguments tt false (syntax.more_expressions (syntax.table tt fields) syntax.no_expressions)) fields_words
 
     -- explist = exp {',' exp}
     pub data WritesExprs : syntax.Expressions (Bare X) → List X → Type 0 where

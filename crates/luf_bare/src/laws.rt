@@ -8,7 +8,8 @@ pub fn one_depth()
     ensures { OneDepth }
 {}
 
-/// Each text of a bare program is read as that program, and what its tree drops is what was added.
+/// Each text of a program is read as that program, with parentheses round the same arguments, and what its tree drops
+/// is what was added.
 pub fn text_is_read()
     ensures { TextIsRead }
 {}
