@@ -26,7 +26,7 @@ use Rattle.luf_tree.specs.TokenSyntax as tokens
 use Rattle.luf_tree.specs.TokenSyntax.{from_to}
 use Rattle.luf_tree.specs.SyntaxOf.{expressions_of, operations_of, suffixes_of, fields_of, statements_of, arms_of, optional_expression_of, optional_block_of, declared_of, first_of_path, rest_of_path, syntax_of, syntax_of_expr, syntax_of_block, syntax_of_stat, syntax_of_field, syntax_of_suffix, syntax_of_step, syntax_of_arm, syntax_of_args, syntax_of_body}
 use Rattle.luf_tree.proofs.SyntaxEquations.{nil_syntax, true_syntax, false_syntax, number_syntax, string_syntax, vararg_syntax, name_syntax, paren_syntax, function_syntax, table_syntax, unary_syntax, chain_syntax, power_syntax, suffixed_syntax, empty_syntax, local_syntax, assign_syntax, call_syntax, do_syntax, while_syntax, repeat_syntax, if_syntax, for_syntax, for_in_syntax, function_stat_syntax, local_function_syntax, label_syntax, goto_syntax, break_syntax, return_syntax, item_syntax, named_syntax, keyed_syntax, dot_syntax, index_syntax, call_suffix_syntax, method_syntax, step_of_syntax, arm_of_syntax, args_of_syntax, block_of_syntax, body_of_syntax}
-use Rattle.luf_bare.specs.Bare.{Bare, words_of, before, chosen_declared, chosen_expression, chosen_optional_expression, chosen_expressions, chosen_operations, chosen_suffix, chosen_suffixes, chosen_arguments, chosen_field, chosen_fields, chosen_statement, chosen_statements, chosen_arm, chosen_arms, chosen_block, chosen_optional_block, chosen_function_body, bare_declared, bare_expression, bare_optional_expression, bare_expressions, bare_operations, bare_suffix, bare_suffixes, bare_arguments, bare_field, bare_fields, bare_statement, bare_statements, bare_arm, bare_arms, bare_block, bare_optional_block, bare_function_body}
+use Rattle.luf_bare.specs.Bare.{Bare, words_of, as_here, before, chosen_declared, chosen_expression, chosen_optional_expression, chosen_expressions, chosen_operations, chosen_suffix, chosen_suffixes, chosen_arguments, chosen_field, chosen_fields, chosen_statement, chosen_statements, chosen_arm, chosen_arms, chosen_block, chosen_optional_block, chosen_function_body, bare_declared, bare_expression, bare_optional_expression, bare_expressions, bare_operations, bare_suffix, bare_suffixes, bare_arguments, bare_field, bare_fields, bare_statement, bare_statements, bare_arm, bare_arms, bare_block, bare_optional_block, bare_function_body}
 use Rattle.luf_bare.specs.Lone.{is_lone, is_lone_item}
 use Rattle.luf_bare.specs.Writing.{opens, guarded_if, after_guard, enclosed, written_more_names, written_names, written_parameters, written_attribute, written_declared, written_fields_of_path, written_path, written_method, written_expression, written_for_step, written_more_expressions, written_expressions, written_operations, written_suffix, written_suffixes, written_arguments, written_field, written_more_fields, written_statement, written_statements, written_arm, written_more_arms, written_arms, written_block, written_else, written_body}
 use Rattle.luf_bare.specs.Significant.{IsFixed, significant}
@@ -69,17 +69,14 @@ module _ {X : Type 0} (kind : X → Tok) (put : Tok → X) (toks : List Tok) (sa
   abbrev no_trail : Unit {0} → Bool
   no_trail _ = false
 
-  abbrev as_it_is : tokens.Span → Bool → Bool
-  as_it_is span had = had
-
   abbrev drafted_declared : tokens.DeclaredName → syntax.DeclaredName Words
-  drafted_declared = chosen_declared (words_of says) as_it_is
+  drafted_declared = chosen_declared (words_of says) as_here
 
   abbrev drafted_expression : tokens.Expression → syntax.Expression Words
-  drafted_expression = chosen_expression (words_of says) as_it_is
+  drafted_expression = chosen_expression (words_of says) as_here
 
   abbrev drafted_expressions : tokens.Expressions → syntax.Expressions Words
-  drafted_expressions = chosen_expressions (words_of says) as_it_is
+  drafted_expressions = chosen_expressions (words_of says) as_here
 
   abbrev own_expression : tokens.Expression → List X
   own_expression e = written_expression kind put nothing no_trail (bare_expression (words_of spells) e)
@@ -235,7 +232,7 @@ module _ {X : Type 0} (kind : X → Tok) (put : Tok → X) (toks : List Tok) (sa
   }
 
   abbrev CountedArguments : tokens.Arguments → Type 0
-  CountedArguments args = (more : List Draft) → gaps (form.arguments string_has table_has (chosen_arguments (words_of says) as_it_is args) more) ≡ length (written_arguments kind put nothing no_trail (bare_arguments (words_of spells) args)) + gaps more
+  CountedArguments args = (more : List Draft) → gaps (form.arguments string_has table_has (chosen_arguments (words_of says) as_here args) more) ≡ length (written_arguments kind put nothing no_trail (bare_arguments (words_of spells) args)) + gaps more
 
   arguments_counted : (span : tokens.Span) (had : Bool) (es : tokens.Expressions) → CountedExpressions es → CountedArguments (syntax.arguments span had es)
   arguments_counted span had es counted more =
@@ -243,24 +240,24 @@ module _ {X : Type 0} (kind : X → Tok) (put : Tok → X) (toks : List Tok) (sa
       ∙ ap (λ n. n + gaps more) (sym counted.as_arguments)
 
   abbrev CountedOperations : tokens.Operations → Type 0
-  CountedOperations os = gaps (form.operations string_has table_has (chosen_operations (words_of says) as_it_is os)) ≡ length (written_operations kind put nothing no_trail (bare_operations (words_of spells) os))
+  CountedOperations os = gaps (form.operations string_has table_has (chosen_operations (words_of says) as_here os)) ≡ length (written_operations kind put nothing no_trail (bare_operations (words_of spells) os))
 
   operations_counted : (name : ℕ) (e : tokens.Expression) (os : tokens.Operations) → CountedExpression e → CountedOperations os → CountedOperations (syntax.more_operations (syntax.operation name e) os)
   operations_counted name e os counted rest =
       omega (arith, length-append (own_expression e) (written_operations kind put nothing no_trail (bare_operations (words_of spells) os)), counted, rest)
 
   abbrev CountedSuffix : tokens.Suffix → Type 0
-  CountedSuffix s = (more : List Draft) → gaps (form.suffix string_has table_has (chosen_suffix (words_of says) as_it_is s) more) ≡ length (written_suffix kind put nothing no_trail (bare_suffix (words_of spells) s)) + gaps more
+  CountedSuffix s = (more : List Draft) → gaps (form.suffix string_has table_has (chosen_suffix (words_of says) as_here s) more) ≡ length (written_suffix kind put nothing no_trail (bare_suffix (words_of spells) s)) + gaps more
 
   abbrev CountedSuffixes : tokens.Suffixes → Type 0
-  CountedSuffixes ss = gaps (form.suffixes_of string_has table_has (chosen_suffixes (words_of says) as_it_is ss)) ≡ length (written_suffixes kind put nothing no_trail (bare_suffixes (words_of spells) ss))
+  CountedSuffixes ss = gaps (form.suffixes_of string_has table_has (chosen_suffixes (words_of says) as_here ss)) ≡ length (written_suffixes kind put nothing no_trail (bare_suffixes (words_of spells) ss))
 
   abbrev CountedField : tokens.Field → Type 0
-  CountedField f = (more : List Draft) → gaps (form.field string_has table_has (chosen_field (words_of says) as_it_is f) more) + 1 ≡ length (written_field kind put nothing no_trail (bare_field (words_of spells) f)) + gaps more
+  CountedField f = (more : List Draft) → gaps (form.field string_has table_has (chosen_field (words_of says) as_here f) more) + 1 ≡ length (written_field kind put nothing no_trail (bare_field (words_of spells) f)) + gaps more
 
   -- fields: behind others, and as a table
   record CountedFields (fs : tokens.Fields) : Type 0 where
-    behind : gaps (form.more_fields string_has table_has (chosen_fields (words_of says) as_it_is fs)) ≡ length (written_more_fields kind put nothing no_trail false (bare_fields (words_of spells) fs))
+    behind : gaps (form.more_fields string_has table_has (chosen_fields (words_of says) as_here fs)) ≡ length (written_more_fields kind put nothing no_trail false (bare_fields (words_of spells) fs))
     whole : (span : tokens.Span) → CountedExpression (syntax.table span fs)
 
   no_field_counted : CountedFields syntax.no_fields
@@ -268,8 +265,8 @@ module _ {X : Type 0} (kind : X → Tok) (put : Tok → X) (toks : List Tok) (sa
 
   fields_counted : (f : tokens.Field) (fs : tokens.Fields) → CountedField f → CountedFields fs → CountedFields (syntax.more_fields f fs)
   fields_counted f fs counted rest = record {
-    behind = omega (arith, length-append (written_field kind put nothing no_trail (bare_field (words_of spells) f)) (written_more_fields kind put nothing no_trail false (bare_fields (words_of spells) fs)), counted (form.more_fields string_has table_has (chosen_fields (words_of says) as_it_is fs)), rest.behind);
-    whole = λ span. omega (arith, length-append {A = X}, counted (form.more_fields string_has table_has (chosen_fields (words_of says) as_it_is fs)), rest.behind);
+    behind = omega (arith, length-append (written_field kind put nothing no_trail (bare_field (words_of spells) f)) (written_more_fields kind put nothing no_trail false (bare_fields (words_of spells) fs)), counted (form.more_fields string_has table_has (chosen_fields (words_of says) as_here fs)), rest.behind);
+    whole = λ span. omega (arith, length-append {A = X}, counted (form.more_fields string_has table_has (chosen_fields (words_of says) as_here fs)), rest.behind);
   }
 
   -- ---- statements, of which the empty ones are left out
@@ -279,7 +276,7 @@ module _ {X : Type 0} (kind : X → Tok) (put : Tok → X) (toks : List Tok) (sa
     counted_as : {s : syntax.Statement Words} {t : syntax.Statement (Bare X)} → openings (form.statement string_has table_has s) + 1 ≡ length (written_statement kind put nothing no_trail t) → CountedBoth (Some s) (Some t)
 
   abbrev CountedStatement : tokens.Statement → Type 0
-  CountedStatement s = CountedBoth (chosen_statement (words_of says) as_it_is s) (bare_statement (words_of spells) s)
+  CountedStatement s = CountedBoth (chosen_statement (words_of says) as_here s) (bare_statement (words_of spells) s)
 
   -- statements: behind others, as a body, and as the main block
   record CountedStatements (ss : syntax.Statements Words) (ts : syntax.Statements (Bare X)) : Type 0 where
@@ -314,18 +311,18 @@ module _ {X : Type 0} (kind : X → Tok) (put : Tok → X) (toks : List Tok) (sa
   }
 
   abbrev CountedBlock : tokens.Block → Type 0
-  CountedBlock b = (more : List Draft) → gaps (form.body string_has table_has (chosen_block (words_of says) as_it_is b) more) ≡ length (written_block kind put nothing no_trail (bare_block (words_of spells) b)) + 1 + gaps more
+  CountedBlock b = (more : List Draft) → gaps (form.body string_has table_has (chosen_block (words_of says) as_here b) more) ≡ length (written_block kind put nothing no_trail (bare_block (words_of spells) b)) + 1 + gaps more
 
   abbrev CountedBody : tokens.FunctionBody → Type 0
-  CountedBody b = gaps (form.function_body string_has table_has (chosen_function_body (words_of says) as_it_is b)) ≡ length (written_body kind put nothing no_trail (bare_function_body (words_of spells) b))
+  CountedBody b = gaps (form.function_body string_has table_has (chosen_function_body (words_of says) as_here b)) ≡ length (written_body kind put nothing no_trail (bare_function_body (words_of spells) b))
 
   abbrev CountedArm : tokens.Arm → Type 0
-  CountedArm a = (more : List Draft) → gaps (form.arm string_has table_has (chosen_arm (words_of says) as_it_is a) more) ≡ length (written_arm kind put nothing no_trail (bare_arm (words_of spells) a)) + 1 + gaps more
+  CountedArm a = (more : List Draft) → gaps (form.arm string_has table_has (chosen_arm (words_of says) as_here a) more) ≡ length (written_arm kind put nothing no_trail (bare_arm (words_of spells) a)) + 1 + gaps more
 
   -- arms, at least one: behind `if`, and behind others
   record CountedArms (arms : tokens.Arms) : Type 0 where
-    first : (more : List Draft) → gaps (form.arms string_has table_has (chosen_arms (words_of says) as_it_is arms) more) ≡ length (written_arms kind put nothing no_trail (bare_arms (words_of spells) arms)) + 1 + gaps more
-    behind : (more : List Draft) → gaps (form.more_arms string_has table_has (chosen_arms (words_of says) as_it_is arms) more) ≡ length (written_more_arms kind put nothing no_trail (bare_arms (words_of spells) arms)) + gaps more
+    first : (more : List Draft) → gaps (form.arms string_has table_has (chosen_arms (words_of says) as_here arms) more) ≡ length (written_arms kind put nothing no_trail (bare_arms (words_of spells) arms)) + 1 + gaps more
+    behind : (more : List Draft) → gaps (form.more_arms string_has table_has (chosen_arms (words_of says) as_here arms) more) ≡ length (written_more_arms kind put nothing no_trail (bare_arms (words_of spells) arms)) + gaps more
 
   one_arm_counted : (a : tokens.Arm) → CountedArm a → CountedArms (syntax.more_arms a syntax.no_arms)
   one_arm_counted a counted = record {
@@ -335,15 +332,15 @@ module _ {X : Type 0} (kind : X → Tok) (put : Tok → X) (toks : List Tok) (sa
 
   arms_counted : (a : tokens.Arm) (arms : tokens.Arms) → CountedArm a → CountedArms arms → CountedArms (syntax.more_arms a arms)
   arms_counted a arms counted rest = record {
-    first = λ more. omega (arith, length-append {A = X}, counted (form.more_arms string_has table_has (chosen_arms (words_of says) as_it_is arms) more), rest.behind more);
-    behind = λ more. omega (arith, length-append {A = X}, counted (form.more_arms string_has table_has (chosen_arms (words_of says) as_it_is arms) more), rest.behind more);
+    first = λ more. omega (arith, length-append {A = X}, counted (form.more_arms string_has table_has (chosen_arms (words_of says) as_here arms) more), rest.behind more);
+    behind = λ more. omega (arith, length-append {A = X}, counted (form.more_arms string_has table_has (chosen_arms (words_of says) as_here arms) more), rest.behind more);
   }
 
   abbrev CountedElse : tokens.OptionalBlock → Type 0
-  CountedElse o = gaps (form.otherwise string_has table_has (chosen_optional_block (words_of says) as_it_is o)) ≡ length (written_else kind put nothing no_trail (bare_optional_block (words_of spells) o))
+  CountedElse o = gaps (form.otherwise string_has table_has (chosen_optional_block (words_of says) as_here o)) ≡ length (written_else kind put nothing no_trail (bare_optional_block (words_of spells) o))
 
   abbrev CountedStep : tokens.OptionalExpression → Type 0
-  CountedStep o = (more : List Draft) → gaps (form.for_step string_has table_has (chosen_optional_expression (words_of says) as_it_is o) more) ≡ length (written_for_step kind put nothing no_trail (bare_optional_expression (words_of spells) o)) + gaps more
+  CountedStep o = (more : List Draft) → gaps (form.for_step string_has table_has (chosen_optional_expression (words_of says) as_here o) more) ≡ length (written_for_step kind put nothing no_trail (bare_optional_expression (words_of spells) o)) + gaps more
 
   -- ---- statements, of which each part is counted
 
@@ -362,7 +359,7 @@ module _ {X : Type 0} (kind : X → Tok) (put : Tok → X) (toks : List Tok) (sa
   body_counted span vararg names b counted =
       omega (
         arith,
-        parameters_gaps vararg names (form.body string_has table_has (chosen_block (words_of says) as_it_is b) (word (codes "end") ∷ [])),
+        parameters_gaps vararg names (form.body string_has table_has (chosen_block (words_of says) as_here b) (word (codes "end") ∷ [])),
         counted (word (codes "end") ∷ []),
         length-append (written_parameters kind put nothing no_trail (map spells names) vararg) (put (Sign sign.RightParen) ∷ (own_block b ++ and_end)),
         length-append (own_block b) and_end,
@@ -378,7 +375,7 @@ module _ {X : Type 0} (kind : X → Tok) (put : Tok → X) (toks : List Tok) (sa
       omega (arith, of_targets.listed (form.assigned string_has table_has (drafted_expressions es)), counted.assigned, length-append (own_expressions targets) (put (Sign sign.Assign) ∷ own_expressions es))
 
   abbrev drafted_block : tokens.Block → syntax.Block Words
-  drafted_block = chosen_block (words_of says) as_it_is
+  drafted_block = chosen_block (words_of says) as_here
 
   while_counted : (e : tokens.Expression) (b : tokens.Block) → CountedExpression e → CountedBlock b → CountedAs (syntax.while_statement tt (drafted_expression e) (drafted_block b)) (syntax.while_statement tt (bare_expression (words_of spells) e) (bare_block (words_of spells) b))
   while_counted e b test counted =
@@ -389,11 +386,11 @@ module _ {X : Type 0} (kind : X → Tok) (put : Tok → X) (toks : List Tok) (sa
       omega (arith, test, counted (word (codes "until") ∷ space ∷ form.expression string_has table_has (drafted_expression e) ∷ []), length-append (own_block b) (put (Word token_word.Until) ∷ own_expression e))
 
   if_counted : (arms : tokens.Arms) (other : tokens.OptionalBlock) → CountedArms arms → CountedElse other
-      → CountedAs (syntax.if_statement tt (chosen_arms (words_of says) as_it_is arms) (chosen_optional_block (words_of says) as_it_is other)) (syntax.if_statement tt (bare_arms (words_of spells) arms) (bare_optional_block (words_of spells) other))
+      → CountedAs (syntax.if_statement tt (chosen_arms (words_of says) as_here arms) (chosen_optional_block (words_of says) as_here other)) (syntax.if_statement tt (bare_arms (words_of spells) arms) (bare_optional_block (words_of spells) other))
   if_counted arms other counted last =
       omega (
         arith,
-        counted.first (form.otherwise string_has table_has (chosen_optional_block (words_of says) as_it_is other)),
+        counted.first (form.otherwise string_has table_has (chosen_optional_block (words_of says) as_here other)),
         last,
         length-append (written_arms kind put nothing no_trail (bare_arms (words_of spells) arms)) (written_else kind put nothing no_trail (bare_optional_block (words_of spells) other) ++ and_end),
         length-append (written_else kind put nothing no_trail (bare_optional_block (words_of spells) other)) and_end,
@@ -410,7 +407,7 @@ module _ {X : Type 0} (kind : X → Tok) (put : Tok → X) (toks : List Tok) (sa
   own_step step = written_for_step kind put nothing no_trail (bare_optional_expression (words_of spells) step)
 
   for_counted : (name : ℕ) (first limit : tokens.Expression) (step : tokens.OptionalExpression) (b : tokens.Block) → CountedExpression first → CountedExpression limit → CountedStep step → CountedBlock b
-      → CountedAs (syntax.for_statement tt (says name) (drafted_expression first) (drafted_expression limit) (chosen_optional_expression (words_of says) as_it_is step) (drafted_block b))
+      → CountedAs (syntax.for_statement tt (says name) (drafted_expression first) (drafted_expression limit) (chosen_optional_expression (words_of says) as_here step) (drafted_block b))
       (syntax.for_statement tt (spells name) (bare_expression (words_of spells) first) (bare_expression (words_of spells) limit) (bare_optional_expression (words_of spells) step) (bare_block (words_of spells) b))
   for_counted name first limit step b of_first of_limit of_step counted =
       omega (
@@ -448,7 +445,7 @@ module _ {X : Type 0} (kind : X → Tok) (put : Tok → X) (toks : List Tok) (sa
   own_body b = written_body kind put nothing no_trail (bare_function_body (words_of spells) b)
 
   abbrev drafted_body : tokens.FunctionBody → syntax.FunctionBody Words
-  drafted_body = chosen_function_body (words_of says) as_it_is
+  drafted_body = chosen_function_body (words_of says) as_here
 
   function_counted : (path : List ℕ) (m : Option ℕ) (b : tokens.FunctionBody)
       → ((more : List Draft) → gaps (form.path (option_map says (first_of_path path)) (map says (rest_of_path path)) more) + 1 ≡ length (own_path path) + gaps more) → CountedBody b
@@ -513,7 +510,7 @@ module _ {X : Type 0} (kind : X → Tok) (put : Tok → X) (toks : List Tok) (sa
     count_suffixes : {calls : Bool} {i k : ℕ} {x : List Suffix} → AreSuffixes toks calls i k x → CountedSuffixes (suffixes_of (map syntax_of_suffix x))
     count_suffixes (g.one_suffix d_s) = omega (arith, length-append {A = X}, count_suffix d_s [])
     count_suffixes (g.more_suffixes {rest} d_s d_rest) =
-        omega (arith, length-append {A = X}, count_suffix d_s (form.suffixes_of string_has table_has (chosen_suffixes (words_of says) as_it_is (suffixes_of (map syntax_of_suffix rest)))), count_suffixes d_rest)
+        omega (arith, length-append {A = X}, count_suffix d_s (form.suffixes_of string_has table_has (chosen_suffixes (words_of says) as_here (suffixes_of (map syntax_of_suffix rest)))), count_suffixes d_rest)
 
     count_suffix : {calls : Bool} {i k : ℕ} {x : Suffix} → IsSuffix toks calls i k x → CountedSuffix (syntax_of_suffix x)
     count_suffix (g.dot_suffix {j} _ _) = subst CountedSuffix (sym (dot_syntax j)) (λ more. omega arith)
@@ -552,7 +549,7 @@ module _ {X : Type 0} (kind : X → Tok) (put : Tok → X) (toks : List Tok) (sa
     count_block : {i k : ℕ} {x : Block} → IsBlock toks i k x → CountedBlock (syntax_of_block x)
     count_block (g.block {i} {j} {stats} d) = subst CountedBlock (sym (block_of_syntax i j stats)) (count_stats d).inside
 
-    count_stats : {i k : ℕ} {x : List Stat} → AreStats toks i k x → CountedStatements (chosen_statements (words_of says) as_it_is (statements_of (map syntax_of_stat x))) (bare_statements (words_of spells) (statements_of (map syntax_of_stat x)))
+    count_stats : {i k : ℕ} {x : List Stat} → AreStats toks i k x → CountedStatements (chosen_statements (words_of says) as_here (statements_of (map syntax_of_stat x))) (bare_statements (words_of spells) (statements_of (map syntax_of_stat x)))
     count_stats g.no_stats = no_statement_counted
     count_stats (g.last_stat d) = statements_counted (count_return d) no_statement_counted
     count_stats (g.more_stats d rest) = statements_counted (count_stat d) (count_stats rest)
@@ -600,9 +597,9 @@ module _ {X : Type 0} (kind : X → Tok) (put : Tok → X) (toks : List Tok) (sa
     count_for_step g.no_for_step = λ more. omega arith
     count_for_step (g.a_for_step _ d_e) = λ more. omega (arith, count_expr d_e)
 
-  pub count_main : {i k : ℕ} {x : Block} → IsBlock toks i k x → openings (form.main string_has table_has (chosen_block (words_of says) as_it_is (syntax_of_block x))) ≡ length (written_block kind put nothing no_trail (bare_block (words_of spells) (syntax_of_block x))) + 1
+  pub count_main : {i k : ℕ} {x : Block} → IsBlock toks i k x → openings (form.main string_has table_has (chosen_block (words_of says) as_here (syntax_of_block x))) ≡ length (written_block kind put nothing no_trail (bare_block (words_of spells) (syntax_of_block x))) + 1
   count_main (g.block {i} {j} {stats} d) =
-      subst (λ z. openings (form.main string_has table_has (chosen_block (words_of says) as_it_is z)) ≡ length (written_block kind put nothing no_trail (bare_block (words_of spells) z)) + 1) (sym (block_of_syntax i j stats)) (count_stats d).whole
+      subst (λ z. openings (form.main string_has table_has (chosen_block (words_of says) as_here z)) ≡ length (written_block kind put nothing no_trail (bare_block (words_of spells) z)) + 1) (sym (block_of_syntax i j stats)) (count_stats d).whole
 
 -- the tokens of a source, with no spelling
 abbrev unspelled : Tok → SpelledToken

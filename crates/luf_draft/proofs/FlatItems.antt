@@ -4,7 +4,7 @@ use Rattle.std.proofs.lemmas.Bool.{false≢true, true≢false}
 use Rattle.luf_lex.specs.declared.token.Tok.{Tok}
 use Rattle.luf_tree.specs.Syntax as syntax
 use Rattle.luf_tree.specs.TokenSyntax as tokens
-use Rattle.luf_bare.specs.Bare.{words_of, before, chosen_expression, chosen_expressions, chosen_statement, chosen_statements}
+use Rattle.luf_bare.specs.Bare.{words_of, as_here, before, chosen_expression, chosen_expressions, chosen_statement, chosen_statements}
 use Rattle.luf_draft.specs.Draft.{Draft, word, drafts, space, tight, tight_end, before_statement, source_ends}
 use Rattle.luf_draft.specs.Flat.{Flat, AreAlike}
 use Rattle.luf_draft.specs.Form.{Items, no_items, lone_string, lone_table, with_block, plain_items, items_of, kind_of_one, kind_of_last, last_kind, Words, lone, arguments_as, statement, statements, body, main}
@@ -14,24 +14,24 @@ use Rattle.luf_draft.specs.declared.mark.Mark.TheVariants.{Gap}
 use Rattle.luf_draft.specs.declared.mark.GapKind.TheVariants as kind
 use Rattle.luf_draft.proofs.FlatShows.{onto, all_onto, Shows, none, one, joins, Stands, Leads}
 use Rattle.luf_draft.proofs.FlatStarts.{opens_alike}
-use Rattle.luf_draft.proofs.FlatLists.{says, keeps}
+use Rattle.luf_draft.proofs.FlatLists.{says}
 
 -- ---- what stays as it is where the tokens are written
 
-same_last_kind : (written : List (List ℕ)) (e : tokens.Expression) → last_kind e ≡ last_kind (chosen_expression (words_of (says written)) keeps e)
+same_last_kind : (written : List (List ℕ)) (e : tokens.Expression) → last_kind e ≡ last_kind (chosen_expression (words_of (says written)) as_here e)
 same_last_kind written (syntax.function span inner) = refl
 same_last_kind written _ = refl
 
-same_kind_of_one : (written : List (List ℕ)) (e : tokens.Expression) → kind_of_one e ≡ kind_of_one (chosen_expression (words_of (says written)) keeps e)
+same_kind_of_one : (written : List (List ℕ)) (e : tokens.Expression) → kind_of_one e ≡ kind_of_one (chosen_expression (words_of (says written)) as_here e)
 same_kind_of_one written (syntax.function span inner) = refl
 same_kind_of_one written _ = refl
 
 same_kind_of_last : (written : List (List ℕ)) (rest : tokens.Expressions) (last : tokens.Expression)
-    → kind_of_last last rest ≡ kind_of_last (chosen_expression (words_of (says written)) keeps last) (chosen_expressions (words_of (says written)) keeps rest)
+    → kind_of_last last rest ≡ kind_of_last (chosen_expression (words_of (says written)) as_here last) (chosen_expressions (words_of (says written)) as_here rest)
 same_kind_of_last written syntax.no_expressions last = same_last_kind written last
 same_kind_of_last written (syntax.more_expressions e rest) last = same_kind_of_last written rest e
 
-pub same_items : (written : List (List ℕ)) (es : tokens.Expressions) → items_of es ≡ items_of (chosen_expressions (words_of (says written)) keeps es)
+pub same_items : (written : List (List ℕ)) (es : tokens.Expressions) → items_of es ≡ items_of (chosen_expressions (words_of (says written)) as_here es)
 same_items written syntax.no_expressions = refl
 same_items written (syntax.more_expressions e syntax.no_expressions) = same_kind_of_one written e
 same_items written (syntax.more_expressions e (syntax.more_expressions f rest)) = same_kind_of_last written rest f
@@ -41,13 +41,13 @@ are_none syntax.no_statements = true
 are_none (syntax.more_statements s rest) = false
 
 are_empty_before : (written : List (List ℕ)) (s : tokens.Statement) (empty : Bool) (cs : syntax.Statements Words) → empty ≡ are_none cs
-    → (is_empty s && empty) ≡ are_none (before (chosen_statement (words_of (says written)) keeps s) cs)
+    → (is_empty s && empty) ≡ are_none (before (chosen_statement (words_of (says written)) as_here s) cs)
 are_empty_before written (syntax.empty_statement span) empty cs is = is
 are_empty_before written _ empty cs is = refl
 
-pub same_empty : (written : List (List ℕ)) (ss : tokens.Statements) → are_empty ss ≡ are_none (chosen_statements (words_of (says written)) keeps ss)
+pub same_empty : (written : List (List ℕ)) (ss : tokens.Statements) → are_empty ss ≡ are_none (chosen_statements (words_of (says written)) as_here ss)
 same_empty written syntax.no_statements = refl
-same_empty written (syntax.more_statements s rest) = are_empty_before written s (are_empty rest) (chosen_statements (words_of (says written)) keeps rest) (same_empty written rest)
+same_empty written (syntax.more_statements s rest) = are_empty_before written s (are_empty rest) (chosen_statements (words_of (says written)) as_here rest) (same_empty written rest)
 
 -- ---- a unary operation
 

@@ -2,7 +2,7 @@
 use Rattle.std.proofs.Common.{ℕ, Bool, true, false, Option, Some, None, List, [], ◌∷◌, ◌++◌, map, get_or}
 use Rattle.std.specs.Option.{option_map}
 use Rattle.luf_tree.specs.TokenSyntax as tokens
-use Rattle.luf_bare.specs.Bare.{words_of, chosen_declared}
+use Rattle.luf_bare.specs.Bare.{words_of, as_here, chosen_declared}
 use Rattle.luf_draft.specs.Draft.{drafts}
 use Rattle.luf_draft.specs.Flat.{Flat}
 use Rattle.luf_draft.specs.Form.{more_words, words, more_parameters, parameters, with_dots, attribute, path_fields, path, method, more_declared, declared}
@@ -10,12 +10,9 @@ use Rattle.luf_draft.specs.inner.Marks.{listed, comma_and, token_mark, name_mark
 use Rattle.luf_draft.specs.declared.mark.GapKind.TheVariants as kind
 use Rattle.luf_draft.proofs.FlatShows.{all_onto, Shows, none, one, joins, Leads}
 
--- the bytes of a token, and parentheses as they stand
+-- the bytes of a token
 abbrev pub says : List (List ℕ) → ℕ → List ℕ
 says written n = get_or written n []
-
-abbrev pub keeps : tokens.Span → Bool → Bool
-keeps span had = had
 
 module _ (written : List (List ℕ)) where
   shows_more_names : (names : List ℕ) → Leads written (listed (comma_and kind.Space) token_mark false names) (more_words (map (says written) names))
@@ -45,11 +42,11 @@ module _ (written : List (List ℕ)) where
   shows_attribute None more t = none
   shows_attribute (Some name) more t = one (one (one (one (one (one none)))))
 
-  shows_more_declared : (ds : List tokens.DeclaredName) → Leads written (listed (comma_and kind.Space) declared_mark false ds) (more_declared (map (chosen_declared (words_of (says written)) keeps) ds))
+  shows_more_declared : (ds : List tokens.DeclaredName) → Leads written (listed (comma_and kind.Space) declared_mark false ds) (more_declared (map (chosen_declared (words_of (says written)) as_here) ds))
   shows_more_declared [] more t = none
   shows_more_declared (d ∷ ds) more t = one (one (one (one (joins (shows_attribute d.attribute _ t) (shows_more_declared ds more t)))))
 
-  pub shows_declared : (ds : List tokens.DeclaredName) → Leads written (declared_marks ds) (declared (map (chosen_declared (words_of (says written)) keeps) ds))
+  pub shows_declared : (ds : List tokens.DeclaredName) → Leads written (declared_marks ds) (declared (map (chosen_declared (words_of (says written)) as_here) ds))
   shows_declared [] more t = none
   shows_declared (d ∷ ds) more t = one (joins (shows_attribute d.attribute _ t) (shows_more_declared ds more t))
 

@@ -3,7 +3,6 @@ pub mod FlatStarts
 pub mod FlatLists
 pub mod FlatItems
 pub mod FlatLaws
-pub mod FlatCounts
 pub mod Counts
 pub mod Added
 pub mod TreeReads

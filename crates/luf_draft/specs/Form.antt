@@ -6,7 +6,7 @@ use Rattle.std.specs.Prelude.{ℕ, Bool, true, false, cond, Option, Some, None, 
 use Rattle.luf_tree.specs.Syntax as syntax
 use Rattle.luf_tree.specs.declared.tree.Chunk.{Chunk}
 use Rattle.luf_tree.specs.SyntaxOf.{syntax_of}
-use Rattle.luf_bare.specs.Bare.{Bare, words_of, chosen_block}
+use Rattle.luf_bare.specs.Bare.{Bare, words_of, as_here, chosen_block}
 use Rattle.luf_draft.specs.Draft.{Draft, Drafts, word, opening, trail, nest, group, sequence, nothing, also, pieces, tight, space, soft, line, tight_end, soft_end, line_end, before_statement, block_ends, nothing_inside, source_ends, nothing_at_all}
 
 -- What the arguments of a call are: none, one string, one table, several of which the last is a function or a table, or
@@ -287,4 +287,4 @@ module _ (string_has table_has : Bool → Bool) where
 
 -- the bare program of a chunk whose tokens are written so; of arguments it is kept whether they have parentheses
 abbrev pub written_program : List (List ℕ) → Chunk → syntax.Block Words
-written_program written chunk = chosen_block (words_of (λ n. get_or written n [])) (λ span had. had) (syntax_of chunk)
+written_program written chunk = chosen_block (words_of (λ n. get_or written n [])) as_here (syntax_of chunk)

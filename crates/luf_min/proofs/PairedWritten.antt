@@ -1,6 +1,6 @@
 -- What is written of a program in words of two kinds: where the words of the program, and those that are put and added,
 -- are related, so are those that are written.
-use Rattle.std.proofs.Common.{◌≡◌, ℕ, Bool, true, false, Option, Some, None, List, [], ◌∷◌, map, refl, subst}
+use Rattle.std.proofs.Common.{◌≡◌, ℕ, Bool, true, false, Option, Some, None, List, [], ◌∷◌, map, sym, subst, ◌∙◌}
 use Rattle.std.specs.Option.{option_map}
 use Rattle.luf_lex.specs.declared.token.Tok.{Tok}
 use Rattle.luf_lex.specs.declared.token.Tok.TheVariants.{Word, Sign}
@@ -8,13 +8,14 @@ use Rattle.luf_lex.specs.declared.token.Word.TheVariants as word
 use Rattle.luf_lex.specs.declared.token.Sign.TheVariants as sign
 use Rattle.luf_tree.specs.Syntax as syntax
 use Rattle.luf_tree.specs.TokenSyntax as tokens
-use Rattle.luf_bare.specs.Lone.{is_lone, is_lone_item}
+use Rattle.luf_bare.specs.Lone.{is_lone}
+use Rattle.luf_bare.proofs.LoneLaws.{lone_chosen}
 use Rattle.luf_bare.specs.Significant.{IsFixed}
 use Rattle.luf_bare.specs.Bare.{Worded, words_at, before, chosen_declared, chosen_expression, chosen_optional_expression, chosen_expressions, chosen_operation, chosen_operations, chosen_suffix, chosen_suffixes, chosen_arguments, chosen_field, chosen_fields, chosen_statement, chosen_statements, chosen_arm, chosen_arms, chosen_block, chosen_optional_block, chosen_function_body}
 use Rattle.luf_bare.specs.Writing.{opens, guarded, guarded_if, separated, after_guard, enclosed, written_more_names, written_names, written_parameters, written_attribute, written_declared, written_fields_of_path, written_path, written_method, written_expression, written_for_step, written_more_expressions, written_expressions, written_operation, written_operations, written_suffix, written_suffixes, written_arguments, written_field, written_more_fields, written_fields, written_statement, written_statements, written_arm, written_more_arms, written_arms, written_block, written_else, written_body}
 use Rattle.luf_resolved.proofs.Paired.{Paired, nothing, more, joined}
 
-module _ {X Y : Type 0} (kind : X → Tok) (put : Tok → X) (add : Tok → List X) (other_kind : Y → Tok) (other_put : Tok → Y) (other_add : Tok → List Y) (trails : tokens.Span → Bool) (encloses : tokens.Span → Bool → Bool) (says : ℕ → X) (other_says : ℕ → Y) (R : X → Y → Type 0) (kinds : (x : X) (y : Y) → R x y → opens (kind x) ≡ opens (other_kind y)) (puts : (t : Tok) → IsFixed t → R (put t) (other_put t)) (additions : (t : Tok) → IsFixed t → Paired R (add t) (other_add t)) (fits : (i : ℕ) → R (says i) (other_says i)) where
+module _ {X Y : Type 0} (kind : X → Tok) (put : Tok → X) (add : Tok → List X) (other_kind : Y → Tok) (other_put : Tok → Y) (other_add : Tok → List Y) (trails : tokens.Span → Bool) (encloses : tokens.Expressions → Bool → Bool) (says : ℕ → X) (other_says : ℕ → Y) (R : X → Y → Type 0) (kinds : (x : X) (y : Y) → R x y → opens (kind x) ≡ opens (other_kind y)) (puts : (t : Tok) → IsFixed t → R (put t) (other_put t)) (additions : (t : Tok) → IsFixed t → Paired R (add t) (other_add t)) (fits : (i : ℕ) → R (says i) (other_says i)) where
   paired_more_names : (names : List ℕ) → Paired R (written_more_names kind put add trails (map says names)) (written_more_names other_kind other_put other_add trails (map other_says names))
   paired_more_names [] = nothing
   paired_more_names (name ∷ names) = more (puts (Sign sign.Comma) tt) (more (fits _) (paired_more_names names))
@@ -66,27 +67,6 @@ module _ {X Y : Type 0} (kind : X → Tok) (put : Tok → X) (add : Tok → List
   paired_separated true = additions (Sign sign.Comma) tt
   paired_separated false = nothing
 
-  lone_item : (e : tokens.Expression) → is_lone_item (chosen_expression (words_at says) encloses e) ≡ is_lone_item (chosen_expression (words_at other_says) encloses e)
-  lone_item (syntax.nil_value span) = refl
-  lone_item (syntax.true_value span) = refl
-  lone_item (syntax.false_value span) = refl
-  lone_item (syntax.numeral span value) = refl
-  lone_item (syntax.string span value) = refl
-  lone_item (syntax.varargs span) = refl
-  lone_item (syntax.variable span name) = refl
-  lone_item (syntax.parenthesised span inner) = refl
-  lone_item (syntax.function span body) = refl
-  lone_item (syntax.table span fields) = refl
-  lone_item (syntax.unary span sign operand) = refl
-  lone_item (syntax.chain span first rest) = refl
-  lone_item (syntax.power span base sign exponent) = refl
-  lone_item (syntax.suffixed span head suffixes) = refl
-
-  same_lone : (es : tokens.Expressions) → is_lone (chosen_expressions (words_at says) encloses es) ≡ is_lone (chosen_expressions (words_at other_says) encloses es)
-  same_lone syntax.no_expressions = refl
-  same_lone (syntax.more_expressions e syntax.no_expressions) = lone_item e
-  same_lone (syntax.more_expressions e (syntax.more_expressions f rest)) = refl
-
   paired_enclosed : (lone wanted : Bool) {words : List X} {others_words : List Y} → Paired R words others_words → Paired R (enclosed kind put add trails lone wanted words) (enclosed other_kind other_put other_add trails lone wanted others_words)
   paired_enclosed false wanted all = more (puts (Sign sign.LeftParen) tt) (joined all (more (puts (Sign sign.RightParen) tt) nothing))
   paired_enclosed true true all = joined (additions (Sign sign.LeftParen) tt) (joined all (additions (Sign sign.RightParen) tt))
@@ -94,7 +74,7 @@ module _ {X Y : Type 0} (kind : X → Tok) (put : Tok → X) (add : Tok → List
 
   paired_lone : (es : tokens.Expressions) (wanted : Bool) {words : List X} {others_words : List Y} → Paired R words others_words
       → Paired R (enclosed kind put add trails (is_lone (chosen_expressions (words_at says) encloses es)) wanted words) (enclosed other_kind other_put other_add trails (is_lone (chosen_expressions (words_at other_says) encloses es)) wanted others_words)
-  paired_lone es wanted {words} {others_words} all = subst (λ b. Paired R (enclosed kind put add trails (is_lone (chosen_expressions (words_at says) encloses es)) wanted words) (enclosed other_kind other_put other_add trails b wanted others_words)) (same_lone es) (paired_enclosed (is_lone (chosen_expressions (words_at says) encloses es)) wanted all)
+  paired_lone es wanted {words} {others_words} all = subst (λ b. Paired R (enclosed kind put add trails (is_lone (chosen_expressions (words_at says) encloses es)) wanted words) (enclosed other_kind other_put other_add trails b wanted others_words)) (lone_chosen (words_at says) encloses es ∙ sym (lone_chosen (words_at other_says) encloses es)) (paired_enclosed (is_lone (chosen_expressions (words_at says) encloses es)) wanted all)
 
   abbrev PairedIf : Option (syntax.Statement (Worded tokens.Span X)) → Option (syntax.Statement (Worded tokens.Span Y)) → Type 0
   PairedIf None None = Unit {0}
@@ -155,7 +135,7 @@ module _ {X Y : Type 0} (kind : X → Tok) (put : Tok → X) (add : Tok → List
     paired_suffixes (syntax.more_suffixes first rest) = joined (paired_suffix first) (paired_suffixes rest)
 
     paired_arguments : (s : tokens.Arguments) → Paired R (written_arguments kind put add trails (chosen_arguments (words_at says) encloses s)) (written_arguments other_kind other_put other_add trails (chosen_arguments (words_at other_says) encloses s))
-    paired_arguments (syntax.arguments span parentheses items) = paired_lone items (encloses span parentheses) (paired_expressions items)
+    paired_arguments (syntax.arguments span parentheses items) = paired_lone items (encloses items parentheses) (paired_expressions items)
 
     paired_field : (s : tokens.Field) → Paired R (written_field kind put add trails (chosen_field (words_at says) encloses s)) (written_field other_kind other_put other_add trails (chosen_field (words_at other_says) encloses s))
     paired_field (syntax.item_field value) = paired_expression value

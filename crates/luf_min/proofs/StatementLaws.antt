@@ -10,8 +10,9 @@ use Rattle.luf_tree.specs.declared.tree.Stat.{Stat}
 use Rattle.luf_tree.specs.SyntaxOf.{expressions_of, statements_of, syntax_of_expr, syntax_of_stat}
 use Rattle.luf_tree.specs.Syntax as syntax
 use Rattle.luf_tree.specs.TokenSyntax as tokens
-use Rattle.luf_bare.specs.Bare.{words_at, before, chosen_expression, chosen_expressions}
-use Rattle.luf_bare.specs.Lone.{is_lone, is_lone_item}
+use Rattle.luf_bare.specs.Bare.{words_at, before}
+use Rattle.luf_bare.specs.Lone.{is_lone}
+use Rattle.luf_bare.proofs.LoneLaws.{lone_chosen}
 use Rattle.luf_bare.specs.Writing.{opens, sign_opens, guarded_if, after_guard, enclosed}
 use Rattle.luf_min.specs.declared.item.Item.{Item}
 use Rattle.luf_min.specs.declared.item.Item.TheVariants.{Token, Sign}
@@ -188,29 +189,8 @@ module _ (toks : List Tok) where
 
   -- ---- arguments
 
-  lone_item : (e : tokens.Expression) → is_lone_item (chosen_expression (words_at Token) never_encloses e) ≡ is_lone_item e
-  lone_item (syntax.nil_value span) = refl
-  lone_item (syntax.true_value span) = refl
-  lone_item (syntax.false_value span) = refl
-  lone_item (syntax.numeral span value) = refl
-  lone_item (syntax.string span value) = refl
-  lone_item (syntax.varargs span) = refl
-  lone_item (syntax.variable span name) = refl
-  lone_item (syntax.parenthesised span inner) = refl
-  lone_item (syntax.function span body) = refl
-  lone_item (syntax.table span fields) = refl
-  lone_item (syntax.unary span sign operand) = refl
-  lone_item (syntax.chain span first rest) = refl
-  lone_item (syntax.power span base sign exponent) = refl
-  lone_item (syntax.suffixed span head suffixes) = refl
-
-  lone_chosen : (es : tokens.Expressions) → is_lone (chosen_expressions (words_at Token) never_encloses es) ≡ is_lone es
-  lone_chosen syntax.no_expressions = refl
-  lone_chosen (syntax.more_expressions e syntax.no_expressions) = lone_item e
-  lone_chosen (syntax.more_expressions e (syntax.more_expressions f rest)) = refl
-
   pub lone_arguments : (span : tokens.Span) (parentheses : Bool) (es : tokens.Expressions) → is_lone es ≡ true → items_in_arguments toks (syntax.arguments span parentheses es) ≡ items_in_expressions toks es
-  lone_arguments span parentheses es lone = ap (λ b. enclosed (kind_of toks) item_of added_items never_trails b false (items_in_expressions toks es)) (lone_chosen es ∙ lone)
+  lone_arguments span parentheses es lone = ap (λ b. enclosed (kind_of toks) item_of added_items never_trails b false (items_in_expressions toks es)) (lone_chosen (words_at Token) never_encloses es ∙ lone)
 
   pub listed_arguments : (span : tokens.Span) (parentheses : Bool) (es : tokens.Expressions) → is_lone es ≡ false → items_in_arguments toks (syntax.arguments span parentheses es) ≡ Sign sign.LeftParen ∷ (items_in_expressions toks es ++ (Sign sign.RightParen ∷ []))
-  listed_arguments span parentheses es lone = ap (λ b. enclosed (kind_of toks) item_of added_items never_trails b false (items_in_expressions toks es)) (lone_chosen es ∙ lone)
+  listed_arguments span parentheses es lone = ap (λ b. enclosed (kind_of toks) item_of added_items never_trails b false (items_in_expressions toks es)) (lone_chosen (words_at Token) never_encloses es ∙ lone)

@@ -10,7 +10,7 @@ use Rattle.luf_lex.specs.declared.token.Piece.{Piece}
 use Rattle.luf_tree.specs.Syntax as syntax
 use Rattle.luf_tree.specs.TokenSyntax as tokens
 use Rattle.luf_tree.specs.TokenSyntax.{from_to}
-use Rattle.luf_bare.specs.Bare.{words_of, chosen_block}
+use Rattle.luf_bare.specs.Bare.{words_of, as_here, chosen_block}
 use Rattle.luf_bare.specs.Dropped.{dropped_block}
 use Rattle.luf_doc.specs.Layout.{layout}
 use Rattle.luf_draft.specs.Form.{main}
@@ -26,7 +26,7 @@ piece kind from to = record { kind = kind; span = record { from = from; to = to 
 abbrev formatted : List ℕ → List Piece → tokens.Block → List ℕ
 formatted source pieces chunk =
     hash_text source
-    ++ layout (page 120) (fill needs [] [] (main always always (chosen_block (words_of (λ n. get_or (spellings_of source pieces) n [])) (λ span had. had) chunk)) (gaps source pieces (dropped_block chunk [])))
+    ++ layout (page 120) (fill needs [] [] (main always always (chosen_block (words_of (λ n. get_or (spellings_of source pieces) n [])) as_here chunk)) (gaps source pieces (dropped_block chunk [])))
 
 -- two `;` go: the comments round them stay in order, and so does the empty line behind a comment
 abbrev semicolons : List ℕ

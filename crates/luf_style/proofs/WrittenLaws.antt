@@ -1,5 +1,5 @@
 -- The tokens of a source as they are written: each is spelled as its token, and the others are as they were.
-use Rattle.std.proofs.Common.{◌≡◌, ℕ, zero, suc, ◌+◌, ◌<◌, ◌≤◌, true, false, Some, List, [], ◌∷◌, ◌++◌, length, drop, drop-cons, get_or, slice_get, add-one, codes, refl, sym, ap, ◌∙◌, subst, arith, inl, inr, append_assoc, append-nil}
+use Rattle.std.proofs.Common.{◌≡◌, ◌↔◌, ℕ, zero, suc, ◌+◌, ◌<◌, ◌≤◌, true, false, Some, List, [], ◌∷◌, ◌++◌, length, drop, drop-cons, get_or, slice_get, add-one, codes, refl, sym, ap, ◌∙◌, subst, arith, inl, inr, append_assoc, append-nil}
 use Rattle.std.specs.Prelude.{bytes_eq, count_by, slice_range, ◌==◌}
 use Rattle.std.specs.Str.{byte}
 use Rattle.std.proofs.lemmas.Bool.{false≢true, false_from_ne_true}
@@ -86,6 +86,15 @@ names_written (styled.requoted is rest) zero there = absurd cc
 names_written (styled.requoted is rest) (suc i) there = names_written rest i there
 names_written (styled.kept other rest) zero there = refl
 names_written (styled.kept other rest) (suc i) there = names_written rest i there
+
+-- a short string has the value that it had
+pub values_written : (quote : List ℕ → ℕ) → ((s : List ℕ) → is_quote (quote s) ≡ true) → (toks : List Tok) (spellings written : List (List ℕ)) → AreWritten quote toks spellings written
+    → (i : ℕ) → slice_get toks i ≡ Some Short → (value : List ℕ) → IsValue (get_or spellings i []) value ↔ IsValue (get_or written i []) value
+values_written quote quotes _ _ _ styled.nothing i there value = (λ h. h, λ h. h)
+values_written quote quotes _ _ _ (styled.requoted {spelling} {written} is rest) zero there value = (same_string spelling (quote spelling) written (quotes spelling) is).1 value
+values_written quote quotes _ _ _ (styled.requoted is rest) (suc i) there value = values_written quote quotes _ _ _ rest i there value
+values_written quote quotes _ _ _ (styled.kept other rest) zero there value = (λ h. h, λ h. h)
+values_written quote quotes _ _ _ (styled.kept other rest) (suc i) there value = values_written quote quotes _ _ _ rest i there value
 
 pub quote_in_is_quote : (style : QuoteStyle) (s : List ℕ) → is_quote (quote_in style s) ≡ true
 quote_in_is_quote style s =

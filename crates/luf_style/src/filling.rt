@@ -40,6 +40,8 @@ struct Filling {
     frames: Vec<Frame>,
     /// The documents of the innermost.
     docs: Vec<Doc>,
+    /// Lists of parts that are closed, whose room is used again.
+    spare: Vec<Vec<Doc>>,
 }
 
 /// The document of marks with these gaps, where the tokens are written so: what fills the draft of which these are the
@@ -57,7 +59,7 @@ pub(crate) fn fill(
     for (n, mark) in marks.iter().enumerate() {
         filling.step(alloc, written, *mark, behind(marks, n))?;
     }
-    Ok(last_of(filling.docs))
+    Ok(last_of(&mut filling.docs))
 }
 
 /// The marks behind mark `n`.
@@ -69,10 +71,9 @@ fn behind(marks: &[Mark], n: usize) -> &[Mark]
 }
 
 /// The last of documents that are one; a `,` where there is none.
-fn last_of(docs: Vec<Doc>) -> Doc
-    ensures { document_of result ≡ last_of (map document_of docs.items) }
+fn last_of(docs: &mut Vec<Doc>) -> Doc
+    ensures { document_of result ≡ last_of (map document_of docs.old.items) }
 {
-    let mut docs = docs;
     match docs.pop() {
         Some(doc) => doc,
         None => Doc::Trail,
@@ -80,23 +81,36 @@ fn last_of(docs: Vec<Doc>) -> Doc
 }
 
 /// A part with these documents inside.
-fn closed(alloc: Global, part: Part, docs: Vec<Doc>) -> Result<Doc, Memory>
-    ensures { IfOk result (λ d. document_of d ≡ closed part (map document_of docs.items)) }
+fn closed(alloc: Global, part: Part, docs: &mut Vec<Doc>) -> Result<Doc, Memory>
+    ensures { IfOk result (λ d. document_of d ≡ closed part (map document_of docs.old.items)) }
 {
     match part {
         Part::Nest => Ok(Doc::Nest(Boxed::new(alloc, last_of(docs))?)),
         Part::Group => Ok(Doc::Group(Boxed::new(alloc, last_of(docs))?)),
-        Part::Sequence => Ok(Doc::Seq(exact(docs))),
+        Part::Sequence => Ok(Doc::Seq(exact(alloc, docs)?)),
     }
 }
 
 /// Documents in just the room that they take.
-fn exact(docs: Vec<Doc>) -> Items<Doc>
-    ensures { result ≡ docs.items }
+fn exact(alloc: Global, docs: &mut Vec<Doc>) -> Result<Items<Doc>, Memory>
+    ensures { IfOk result (λ made. made ≡ docs.old.items) }
 {
-    let mut docs = docs;
-    docs.shrink_to_fit();
-    Items::from_vec(docs)
+    let mut made = Vec::with_capacity(alloc, docs.len())?;
+    made.append(docs)?;
+    Ok(Items::from_vec(made))
+}
+
+/// An empty list, in the room of a spare one if there is one.
+fn emptied(alloc: Global, spare: Option<Vec<Doc>>) -> Vec<Doc>
+    ensures { result.items ≡ [] }
+{
+    match spare {
+        Some(mut docs) => {
+            docs.clear();
+            docs
+        }
+        None => Vec::new(alloc),
+    }
 }
 
 impl Filling {
@@ -114,6 +128,7 @@ impl Filling {
             last: Mark::Trail,
             frames: Vec::new(alloc),
             docs: Vec::new(alloc),
+            spare: Vec::new(alloc),
         }
     }
 
@@ -194,7 +209,8 @@ impl Filling {
     fn open(&mut self, alloc: Global, part: Part) -> Result<(), Memory>
         ensures { OnOk result ((written : List (List ℕ)) (rest : List Flat) → Steps written (variants.Open part) rest self.old self.new) }
     {
-        let before = mem::replace(&mut self.docs, Vec::new(alloc));
+        let room = emptied(alloc, self.spare.pop());
+        let before = mem::replace(&mut self.docs, room);
         self.frames.push(Frame { part, before })?;
         Ok(())
     }
@@ -205,8 +221,9 @@ impl Filling {
     {
         match self.frames.pop() {
             Some(frame) => {
-                let inside = mem::replace(&mut self.docs, frame.before);
-                self.docs.push(closed(alloc, frame.part, inside)?)?;
+                let mut inside = mem::replace(&mut self.docs, frame.before);
+                self.docs.push(closed(alloc, frame.part, &mut inside)?)?;
+                self.spare.push(inside)?;
                 Ok(())
             }
             None => Ok(()),

@@ -51,7 +51,7 @@ abbrev pub never_trails : tokens.Span → Bool
 never_trails _ = false
 
 -- no lone argument stands in parentheses
-abbrev pub never_encloses : tokens.Span → Bool → Bool
+abbrev pub never_encloses : tokens.Expressions → Bool → Bool
 never_encloses _ _ = false
 
 abbrev pub of_statement : {M : syntax.Shape} → (syntax.Statement M → List Item) → Option (syntax.Statement M) → List Item
