@@ -34,7 +34,7 @@ use Rattle.luf_draft.specs.Draft.{Draft}
 use Rattle.luf_draft.specs.Form.{main, written_program}
 use Rattle.luf_gaps.specs.Gaps.{trimmed}
 use Rattle.luf_style.specs.Styled.{IsFormatted, choices_of}
-use Rattle.luf_style.proofs.WrittenLaws.{token_spelled, tokens_written, as_many_written, names_written, quote_in_is_quote}
+use Rattle.luf_style.proofs.WrittenLaws.{token_spelled, tokens_written, as_many_written, names_written, values_written, quote_in_is_quote}
 use Rattle.luf_kept.specs.Kept.{IsKept, spelled_so, comments_in}
 use Rattle.luf_kept.specs.inner.DraftText.{IsWritten, AreTokens, DraftText}
 use Rattle.luf_kept.specs.inner.LaidWords.{words_of}
@@ -83,7 +83,7 @@ module _ (o : Options) (source text : List ℕ) (f : IsFormatted (choices_of o) 
   abbrev pub filled_draft : Draft
   filled_draft = main (keeps_round_string o.calls) (keeps_round_table o.calls) (written_program f.styled.written f.chunk)
 
-  pub draft_text : DraftText toks f.styled.written f.chunk filled_draft words (laid_takes (choices_of o).page f.styled.filled)
+  pub draft_text : DraftText toks f.styled.written (keeps_round_string o.calls) (keeps_round_table o.calls) f.chunk filled_draft words (laid_takes (choices_of o).page f.styled.filled)
   draft_text = draft_is_text toks f.styled.written (keeps_round_string o.calls) (keeps_round_table o.calls) f.chunk f.tree is_written words (laid_takes (choices_of o).page f.styled.filled)
 
   abbrev pub text_words : List TextWord
@@ -161,6 +161,7 @@ module _ (o : Options) (source text : List ℕ) (f : IsFormatted (choices_of o) 
     is = record { cut = f.cut; tree = f.tree; levels = levels };
     written = f.styled.written;
     are_written = f.styled.are_written;
+    values = values_written (choices_of o).quote (quote_in_is_quote o.quotes) toks (spellings_of source f.pieces) f.styled.written f.styled.are_written;
     others = again.others;
     other = back.read.tree;
     read = source_read levels;

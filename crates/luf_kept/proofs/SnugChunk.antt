@@ -20,9 +20,9 @@ use Rattle.luf_tree.specs.Syntax as syntax
 use Rattle.luf_tree.specs.TokenSyntax as tokens
 use Rattle.luf_tree.specs.TokenSyntax.{from_to}
 use Rattle.luf_tree.specs.SyntaxOf.{expressions_of, operations_of, suffixes_of, fields_of, statements_of, arms_of, optional_expression_of, optional_block_of, declared_of, first_of_path, syntax_of_expr, syntax_of_block, syntax_of_stat, syntax_of_field, syntax_of_suffix, syntax_of_step, syntax_of_arm, syntax_of_args, syntax_of_body}
-use Rattle.luf_bare.specs.Bare.{words_of, before, chosen_declared, chosen_expression, chosen_optional_expression, chosen_expressions, chosen_operations, chosen_suffix, chosen_suffixes, chosen_arguments, chosen_field, chosen_fields, chosen_statement, chosen_statements, chosen_arm, chosen_arms, chosen_block, chosen_optional_block, chosen_function_body}
+use Rattle.luf_bare.specs.Bare.{words_of, as_here, before, chosen_declared, chosen_expression, chosen_optional_expression, chosen_expressions, chosen_operations, chosen_suffix, chosen_suffixes, chosen_arguments, chosen_field, chosen_fields, chosen_statement, chosen_statements, chosen_arm, chosen_arms, chosen_block, chosen_optional_block, chosen_function_body}
 use Rattle.luf_draft.specs.Form.{Words, main, written_program}
-use Rattle.luf_draft.proofs.FlatLists.{says, keeps}
+use Rattle.luf_draft.proofs.FlatLists.{says}
 use Rattle.luf_tree.proofs.SyntaxEquations.{nil_syntax, true_syntax, false_syntax, number_syntax, string_syntax, vararg_syntax, name_syntax, paren_syntax, function_syntax, table_syntax, unary_syntax, chain_syntax, power_syntax, suffixed_syntax, empty_syntax, local_syntax, assign_syntax, call_syntax, do_syntax, while_syntax, repeat_syntax, if_syntax, for_syntax, for_in_syntax, function_stat_syntax, local_function_syntax, label_syntax, goto_syntax, break_syntax, return_syntax, item_syntax, named_syntax, keyed_syntax, dot_syntax, index_syntax, call_suffix_syntax, method_syntax, step_of_syntax, arm_of_syntax, args_of_syntax, block_of_syntax, body_of_syntax}
 use Rattle.luf_kept.specs.inner.Steps.{begun, free, Steps}
 use Rattle.luf_kept.proofs.SnugDraft.{draft_steps}
@@ -47,58 +47,58 @@ drafted_before (Some s) rest is are = (is, are)
 
 module _ (toks : List Tok) (written : List (List ℕ)) where
   abbrev ToldExpr : tokens.Expression → Type 0
-  ToldExpr s = IsDraftedExpression (chosen_expression (words_of (says written)) keeps s)
+  ToldExpr s = IsDraftedExpression (chosen_expression (words_of (says written)) as_here s)
 
   abbrev ToldSteps : tokens.Operations → Type 0
-  ToldSteps s = AreDraftedOperations (chosen_operations (words_of (says written)) keeps s)
+  ToldSteps s = AreDraftedOperations (chosen_operations (words_of (says written)) as_here s)
 
   abbrev ToldSuffix : tokens.Suffix → Type 0
-  ToldSuffix s = IsDraftedSuffix (chosen_suffix (words_of (says written)) keeps s)
+  ToldSuffix s = IsDraftedSuffix (chosen_suffix (words_of (says written)) as_here s)
 
   abbrev ToldSuffixes : tokens.Suffixes → Type 0
-  ToldSuffixes s = AreDraftedSuffixes (chosen_suffixes (words_of (says written)) keeps s)
+  ToldSuffixes s = AreDraftedSuffixes (chosen_suffixes (words_of (says written)) as_here s)
 
   abbrev ToldArgs : tokens.Arguments → Type 0
-  ToldArgs s = AreDraftedArguments (chosen_arguments (words_of (says written)) keeps s)
+  ToldArgs s = AreDraftedArguments (chosen_arguments (words_of (says written)) as_here s)
 
   abbrev ToldExprs : tokens.Expressions → Type 0
-  ToldExprs s = SomeDraftedExpressions (chosen_expressions (words_of (says written)) keeps s)
+  ToldExprs s = SomeDraftedExpressions (chosen_expressions (words_of (says written)) as_here s)
 
   abbrev ToldFields : tokens.Fields → Type 0
-  ToldFields s = AreDraftedFields (chosen_fields (words_of (says written)) keeps s)
+  ToldFields s = AreDraftedFields (chosen_fields (words_of (says written)) as_here s)
 
   abbrev ToldField : tokens.Field → Type 0
-  ToldField s = IsDraftedField (chosen_field (words_of (says written)) keeps s)
+  ToldField s = IsDraftedField (chosen_field (words_of (says written)) as_here s)
 
   abbrev ToldFuncBody : tokens.FunctionBody → Type 0
-  ToldFuncBody s = IsDraftedFunction (chosen_function_body (words_of (says written)) keeps s)
+  ToldFuncBody s = IsDraftedFunction (chosen_function_body (words_of (says written)) as_here s)
 
   abbrev ToldBlock : tokens.Block → Type 0
-  ToldBlock s = IsDrafted (chosen_block (words_of (says written)) keeps s)
+  ToldBlock s = IsDrafted (chosen_block (words_of (says written)) as_here s)
 
   abbrev ToldStats : tokens.Statements → Type 0
-  ToldStats s = AreDraftedStatements (chosen_statements (words_of (says written)) keeps s)
+  ToldStats s = AreDraftedStatements (chosen_statements (words_of (says written)) as_here s)
 
   abbrev ToldStat : tokens.Statement → Type 0
-  ToldStat s = IsDraftedIf (chosen_statement (words_of (says written)) keeps s)
+  ToldStat s = IsDraftedIf (chosen_statement (words_of (says written)) as_here s)
 
   abbrev ToldArm : tokens.Arm → Type 0
-  ToldArm s = IsDraftedArm (chosen_arm (words_of (says written)) keeps s)
+  ToldArm s = IsDraftedArm (chosen_arm (words_of (says written)) as_here s)
 
   abbrev ToldArms : tokens.Arms → Type 0
-  ToldArms s = SomeDraftedArms (chosen_arms (words_of (says written)) keeps s)
+  ToldArms s = SomeDraftedArms (chosen_arms (words_of (says written)) as_here s)
 
   abbrev ToldElse : tokens.OptionalBlock → Type 0
-  ToldElse s = IsDraftedElse (chosen_optional_block (words_of (says written)) keeps s)
+  ToldElse s = IsDraftedElse (chosen_optional_block (words_of (says written)) as_here s)
 
   abbrev ToldForStep : tokens.OptionalExpression → Type 0
-  ToldForStep s = IsDraftedStep (chosen_optional_expression (words_of (says written)) keeps s)
+  ToldForStep s = IsDraftedStep (chosen_optional_expression (words_of (says written)) as_here s)
 
   filled_names : {i k : ℕ} {names : List ℕ} → AreNames toks i k names → IsFilled (map (says written) names)
   filled_names (g.one_name _) = tt
   filled_names (g.more_names _ _ _) = tt
 
-  filled_declared : {i k : ℕ} {ds : List Declared} → AreDeclared toks i k ds → IsFilled (map (chosen_declared (words_of (says written)) keeps) (map declared_of ds))
+  filled_declared : {i k : ℕ} {ds : List Declared} → AreDeclared toks i k ds → IsFilled (map (chosen_declared (words_of (says written)) as_here) (map declared_of ds))
   filled_declared (g.one_declared _ _) = tt
   filled_declared (g.more_declared _ _ _ _) = tt
 
@@ -106,11 +106,11 @@ module _ (toks : List Tok) (written : List (List ℕ)) where
   given_name (g.path_end _) = tt
   given_name (g.path_more _ _ _) = tt
 
-  each_of : (es : tokens.Expressions) → ToldExprs es → AreDraftedExpressions (chosen_expressions (words_of (says written)) keeps es)
-  each_of es are = each_expression (chosen_expressions (words_of (says written)) keeps es) are
+  each_of : (es : tokens.Expressions) → ToldExprs es → AreDraftedExpressions (chosen_expressions (words_of (says written)) as_here es)
+  each_of es are = each_expression (chosen_expressions (words_of (says written)) as_here es) are
 
   drafted_next : (s : tokens.Statement) (rest : tokens.Statements) → ToldStat s → ToldStats rest → ToldStats (syntax.more_statements s rest)
-  drafted_next s rest is are = drafted_before (chosen_statement (words_of (says written)) keeps s) (chosen_statements (words_of (says written)) keeps rest) is are
+  drafted_next s rest is are = drafted_before (chosen_statement (words_of (says written)) as_here s) (chosen_statements (words_of (says written)) as_here rest) is are
 
   mutual
     drafted_expr : {n i k : ℕ} {x : Expr} → IsExpr toks n i k x → ToldExpr (syntax_of_expr x)

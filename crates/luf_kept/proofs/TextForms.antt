@@ -1,5 +1,5 @@
--- The words of the draft of a chunk are a text of its bare program: by recursion over the derivation, one line for each
--- production.
+-- The words of the draft of a chunk are a text of its program, whose lone arguments stand in parentheses as the draft has
+-- them: by recursion over the derivation, one line for each production.
 use Rattle.std.proofs.Common.{◌≡◌, ℕ, inl, inr, Bool, true, false, Option, List, [], ◌∷◌, ◌++◌, codes, bytes_eq, map, ap, sym, refl, subst, ◌∙◌}
 use Rattle.std.specs.Option.{option_map}
 use Rattle.luf_lex.specs.declared.token.Tok.{Tok}
@@ -24,19 +24,23 @@ use Rattle.luf_tree.specs.TokenSyntax as tokens
 use Rattle.luf_tree.specs.TokenSyntax.{from_to}
 use Rattle.luf_tree.specs.SyntaxOf.{expressions_of, operations_of, suffixes_of as syntax_suffixes_of, fields_of, statements_of, arms_of, optional_expression_of, optional_block_of, first_of_path, rest_of_path, syntax_of_expr, syntax_of_block, syntax_of_stat, syntax_of_field, syntax_of_suffix, syntax_of_step, syntax_of_arm, syntax_of_args, syntax_of_body}
 use Rattle.luf_tree.proofs.SyntaxEquations.{nil_syntax, true_syntax, false_syntax, number_syntax, string_syntax, vararg_syntax, name_syntax, paren_syntax, function_syntax, table_syntax, unary_syntax, chain_syntax, power_syntax, suffixed_syntax, empty_syntax, local_syntax, assign_syntax, call_syntax, do_syntax, while_syntax, repeat_syntax, if_syntax, for_syntax, for_in_syntax, function_stat_syntax, local_function_syntax, label_syntax, goto_syntax, break_syntax, return_syntax, item_syntax, named_syntax, keyed_syntax, dot_syntax, index_syntax, call_suffix_syntax, method_syntax, step_of_syntax, arm_of_syntax, args_of_syntax, block_of_syntax, body_of_syntax}
-use Rattle.luf_bare.specs.Bare.{Bare, words_of, bare_expression, bare_optional_expression, bare_expressions, bare_operations, bare_suffix, bare_suffixes, bare_arguments, bare_statement, bare_statements, bare_arm, bare_arms, bare_block, bare_optional_block, bare_function_body, chosen_expression, chosen_optional_expression, chosen_expressions, chosen_operations, chosen_suffix, chosen_suffixes, chosen_arguments, chosen_statement, chosen_statements, chosen_arm, chosen_arms, chosen_block, chosen_optional_block, chosen_function_body}
+use Rattle.luf_bare.specs.Bare.{Bare, words_of, as_here, chosen_expression, chosen_optional_expression, chosen_expressions, chosen_operations, chosen_suffix, chosen_suffixes, chosen_arguments, chosen_statement, chosen_statements, chosen_arm, chosen_arms, chosen_block, chosen_optional_block, chosen_function_body}
+use Rattle.luf_bare.specs.Lone.{by_kind}
 use Rattle.luf_bare.specs.ReadBack.{TextWord, token_of, is_added}
 use Rattle.luf_bare.specs.Texts as w
 use Rattle.luf_bare.specs.Texts.{IsStringWord, WritesExpr, WritesSteps, WritesOperand, WritesSimple, WritesPrefix, WritesVariable, WritesCall, WritesParen, WritesHead, WritesSuffixes, WritesSuffix, WritesArgs, WritesExprs, WritesFuncBody, WritesBlock, WritesStat, WritesTargets, WritesArm, WritesArms, WritesElse, WritesForStep}
 use Rattle.luf_draft.specs.Draft.{Draft, Drafts, word, nothing, also, drafts, tight, space, line}
 use Rattle.luf_draft.specs.Form.{Words, expression, expressions, more_expressions, broken_expressions, more_broken, operations, suffix, suffixes_of, arguments, function_body, assigned, for_step, arm, arms, more_arms, otherwise, statement, body, main}
 use Rattle.luf_kept.proofs.TextParts.{own, Stands, Reads, done, keyword, sign, gap, behind_sign, part, lead, follow, last, as_well, whole, grouped, nested, lone, lone_keyword, lone_sign}
-use Rattle.luf_kept.proofs.TextNames.{Source, keeps, Leads, says as says_of, says_keeps as says_keeps_of, says_spelled as says_spelled_of, leaf as leaf_of, tell_names, tell_params, tell_declared, tell_path, tell_method}
+use Rattle.luf_kept.proofs.TextNames.{Source, Leads, says as says_of, says_keeps as says_keeps_of, says_spelled as says_spelled_of, leaf as leaf_of, tell_names, tell_params, tell_declared, tell_path, tell_method}
 use Rattle.luf_kept.proofs.TextItems.{fits, tell_items, TellsField, TellsFields, TellsTable, tell_more_fields, tell_table_of, TellsStat, silent, tells, TellsReturn, tells_return, TellsFirst, TellsLater, tell_last_first, tell_last_later, tell_more_first, tell_more_later, tell_inner, tell_source, TellsElse, else_end}
 
 module _ (toks : List Tok) (source : Source toks) (string_has table_has : Bool → Bool) where
   abbrev says : ℕ → TextWord
   says = says_of toks source
+
+  abbrev standing : tokens.Expressions → Bool → Bool
+  standing = by_kind string_has table_has
 
   says_keeps : {i j : ℕ} {t : Tok} → IsToken toks i t j → (token_of (says i) ≡ t) × (is_added (says i) ≡ false)
   says_keeps t = says_keeps_of toks source t
@@ -58,46 +62,46 @@ module _ (toks : List Tok) (source : Source toks) (string_has table_has : Bool �
   -- ---- what is told of each family
 
   abbrev ToldExpr : ℕ → tokens.Expression → Type 0
-  ToldExpr n s = Stands true false (WritesExpr token_of is_added n (bare_expression (words_of says) s)) (expression string_has table_has (chosen_expression (words_of source.bytes) keeps s))
+  ToldExpr n s = Stands true false (WritesExpr token_of is_added n (chosen_expression (words_of says) standing s)) (expression string_has table_has (chosen_expression (words_of source.bytes) as_here s))
 
   abbrev ToldSteps : ℕ → tokens.Operations → Type 0
-  ToldSteps m s = Reads false false (WritesSteps token_of is_added m (bare_operations (words_of says) s)) (drafts (operations string_has table_has (chosen_operations (words_of source.bytes) keeps s))) nothing
+  ToldSteps m s = Reads false false (WritesSteps token_of is_added m (chosen_operations (words_of says) standing s)) (drafts (operations string_has table_has (chosen_operations (words_of source.bytes) as_here s))) nothing
 
   abbrev ToldOperand : tokens.Expression → Type 0
-  ToldOperand s = Stands true false (WritesOperand token_of is_added (bare_expression (words_of says) s)) (expression string_has table_has (chosen_expression (words_of source.bytes) keeps s))
+  ToldOperand s = Stands true false (WritesOperand token_of is_added (chosen_expression (words_of says) standing s)) (expression string_has table_has (chosen_expression (words_of source.bytes) as_here s))
 
   abbrev ToldSimple : tokens.Expression → Type 0
-  ToldSimple s = Stands true false (WritesSimple token_of is_added (bare_expression (words_of says) s)) (expression string_has table_has (chosen_expression (words_of source.bytes) keeps s))
+  ToldSimple s = Stands true false (WritesSimple token_of is_added (chosen_expression (words_of says) standing s)) (expression string_has table_has (chosen_expression (words_of source.bytes) as_here s))
 
   abbrev ToldPrefix : tokens.Expression → Type 0
-  ToldPrefix s = Stands true false (WritesPrefix token_of is_added (bare_expression (words_of says) s)) (expression string_has table_has (chosen_expression (words_of source.bytes) keeps s))
+  ToldPrefix s = Stands true false (WritesPrefix token_of is_added (chosen_expression (words_of says) standing s)) (expression string_has table_has (chosen_expression (words_of source.bytes) as_here s))
 
   abbrev ToldVariable : tokens.Expression → Type 0
-  ToldVariable s = Stands true false (WritesVariable token_of is_added (bare_expression (words_of says) s)) (expression string_has table_has (chosen_expression (words_of source.bytes) keeps s))
+  ToldVariable s = Stands true false (WritesVariable token_of is_added (chosen_expression (words_of says) standing s)) (expression string_has table_has (chosen_expression (words_of source.bytes) as_here s))
 
   abbrev ToldCall : tokens.Expression → Type 0
-  ToldCall s = Stands true false (WritesCall token_of is_added (bare_expression (words_of says) s)) (expression string_has table_has (chosen_expression (words_of source.bytes) keeps s))
+  ToldCall s = Stands true false (WritesCall token_of is_added (chosen_expression (words_of says) standing s)) (expression string_has table_has (chosen_expression (words_of source.bytes) as_here s))
 
   abbrev ToldParen : tokens.Expression → Type 0
-  ToldParen s = Stands true false (WritesParen token_of is_added (bare_expression (words_of says) s)) (expression string_has table_has (chosen_expression (words_of source.bytes) keeps s))
+  ToldParen s = Stands true false (WritesParen token_of is_added (chosen_expression (words_of says) standing s)) (expression string_has table_has (chosen_expression (words_of source.bytes) as_here s))
 
   abbrev ToldHead : tokens.Expression → Type 0
-  ToldHead s = Stands true false (WritesHead token_of is_added (bare_expression (words_of says) s)) (expression string_has table_has (chosen_expression (words_of source.bytes) keeps s))
+  ToldHead s = Stands true false (WritesHead token_of is_added (chosen_expression (words_of says) standing s)) (expression string_has table_has (chosen_expression (words_of source.bytes) as_here s))
 
   abbrev ToldSuffixes : Bool → tokens.Suffixes → Type 0
-  ToldSuffixes calls s = Reads false false (WritesSuffixes token_of is_added calls (bare_suffixes (words_of says) s)) (drafts (suffixes_of string_has table_has (chosen_suffixes (words_of source.bytes) keeps s))) nothing
+  ToldSuffixes calls s = Reads false false (WritesSuffixes token_of is_added calls (chosen_suffixes (words_of says) standing s)) (drafts (suffixes_of string_has table_has (chosen_suffixes (words_of source.bytes) as_here s))) nothing
 
   abbrev ToldSuffix : Bool → tokens.Suffix → Type 0
-  ToldSuffix calls s = Leads false false (WritesSuffix token_of is_added calls (bare_suffix (words_of says) s)) (suffix string_has table_has (chosen_suffix (words_of source.bytes) keeps s))
+  ToldSuffix calls s = Leads false false (WritesSuffix token_of is_added calls (chosen_suffix (words_of says) standing s)) (suffix string_has table_has (chosen_suffix (words_of source.bytes) as_here s))
 
   abbrev ToldArgs : tokens.Arguments → Type 0
-  ToldArgs s = Leads false false (WritesArgs token_of is_added (bare_arguments (words_of says) s)) (arguments string_has table_has (chosen_arguments (words_of source.bytes) keeps s))
+  ToldArgs s = Leads false false (WritesArgs token_of is_added (chosen_arguments (words_of says) standing s)) (arguments string_has table_has (chosen_arguments (words_of source.bytes) as_here s))
 
   abbrev ToldExprs : tokens.Expressions → Type 0
-  ToldExprs s = Leads true false (WritesExprs token_of is_added (bare_expressions (words_of says) s)) (expressions string_has table_has (chosen_expressions (words_of source.bytes) keeps s))
+  ToldExprs s = Leads true false (WritesExprs token_of is_added (chosen_expressions (words_of says) standing s)) (expressions string_has table_has (chosen_expressions (words_of source.bytes) as_here s))
 
   abbrev ToldBroken : tokens.Expressions → Type 0
-  ToldBroken s = Leads true false (WritesExprs token_of is_added (bare_expressions (words_of says) s)) (broken_expressions string_has table_has (chosen_expressions (words_of source.bytes) keeps s))
+  ToldBroken s = Leads true false (WritesExprs token_of is_added (chosen_expressions (words_of says) standing s)) (broken_expressions string_has table_has (chosen_expressions (words_of source.bytes) as_here s))
 
   abbrev ToldField : tokens.Field → Type 0
   ToldField = TellsField string_has table_has source.bytes says
@@ -109,48 +113,48 @@ module _ (toks : List Tok) (source : Source toks) (string_has table_has : Bool �
   ToldTable = TellsTable string_has table_has source.bytes says
 
   abbrev ToldFuncBody : tokens.FunctionBody → Type 0
-  ToldFuncBody s = Reads false false (WritesFuncBody token_of is_added (bare_function_body (words_of says) s)) (drafts (function_body string_has table_has (chosen_function_body (words_of source.bytes) keeps s))) nothing
+  ToldFuncBody s = Reads false false (WritesFuncBody token_of is_added (chosen_function_body (words_of says) standing s)) (drafts (function_body string_has table_has (chosen_function_body (words_of source.bytes) as_here s))) nothing
 
   abbrev ToldBody : tokens.Block → Type 0
-  ToldBody s = Leads false true (WritesBlock token_of is_added (bare_block (words_of says) s)) (body string_has table_has (chosen_block (words_of source.bytes) keeps s))
+  ToldBody s = Leads false true (WritesBlock token_of is_added (chosen_block (words_of says) standing s)) (body string_has table_has (chosen_block (words_of source.bytes) as_here s))
 
   abbrev ToldMain : tokens.Block → Type 0
-  ToldMain s = Stands false true (WritesBlock token_of is_added (bare_block (words_of says) s)) (main string_has table_has (chosen_block (words_of source.bytes) keeps s))
+  ToldMain s = Stands false true (WritesBlock token_of is_added (chosen_block (words_of says) standing s)) (main string_has table_has (chosen_block (words_of source.bytes) as_here s))
 
   abbrev ToldFirst : tokens.Statements → Type 0
-  ToldFirst s = TellsFirst string_has table_has (bare_statements (words_of says) s) (chosen_statements (words_of source.bytes) keeps s)
+  ToldFirst s = TellsFirst string_has table_has (chosen_statements (words_of says) standing s) (chosen_statements (words_of source.bytes) as_here s)
 
   abbrev ToldLater : tokens.Statements → Type 0
-  ToldLater s = TellsLater string_has table_has (bare_statements (words_of says) s) (chosen_statements (words_of source.bytes) keeps s)
+  ToldLater s = TellsLater string_has table_has (chosen_statements (words_of says) standing s) (chosen_statements (words_of source.bytes) as_here s)
 
   abbrev ToldStat : tokens.Statement → Type 0
-  ToldStat s = TellsStat string_has table_has (bare_statement (words_of says) s) (chosen_statement (words_of source.bytes) keeps s)
+  ToldStat s = TellsStat string_has table_has (chosen_statement (words_of says) standing s) (chosen_statement (words_of source.bytes) as_here s)
 
   abbrev ToldReturn : tokens.Statement → Type 0
-  ToldReturn s = TellsReturn string_has table_has (bare_statement (words_of says) s) (chosen_statement (words_of source.bytes) keeps s)
+  ToldReturn s = TellsReturn string_has table_has (chosen_statement (words_of says) standing s) (chosen_statement (words_of source.bytes) as_here s)
 
   abbrev ToldTargets : tokens.Expressions → Type 0
-  ToldTargets s = Leads true false (WritesTargets token_of is_added (bare_expressions (words_of says) s)) (expressions string_has table_has (chosen_expressions (words_of source.bytes) keeps s))
+  ToldTargets s = Leads true false (WritesTargets token_of is_added (chosen_expressions (words_of says) standing s)) (expressions string_has table_has (chosen_expressions (words_of source.bytes) as_here s))
 
   abbrev ToldArm : tokens.Arm → Type 0
-  ToldArm s = Leads false true (WritesArm token_of is_added (bare_arm (words_of says) s)) (arm string_has table_has (chosen_arm (words_of source.bytes) keeps s))
+  ToldArm s = Leads false true (WritesArm token_of is_added (chosen_arm (words_of says) standing s)) (arm string_has table_has (chosen_arm (words_of source.bytes) as_here s))
 
   abbrev ToldArms : tokens.Arms → Type 0
-  ToldArms s = Leads false true (WritesArms token_of is_added (bare_arms (words_of says) s)) (arms string_has table_has (chosen_arms (words_of source.bytes) keeps s))
+  ToldArms s = Leads false true (WritesArms token_of is_added (chosen_arms (words_of says) standing s)) (arms string_has table_has (chosen_arms (words_of source.bytes) as_here s))
 
   abbrev ToldElse : tokens.OptionalBlock → Type 0
-  ToldElse s = Reads true false (TellsElse string_has table_has (bare_optional_block (words_of says) s)) (drafts (otherwise string_has table_has (chosen_optional_block (words_of source.bytes) keeps s))) nothing
+  ToldElse s = Reads true false (TellsElse string_has table_has (chosen_optional_block (words_of says) standing s)) (drafts (otherwise string_has table_has (chosen_optional_block (words_of source.bytes) as_here s))) nothing
 
   abbrev ToldForStep : tokens.OptionalExpression → Type 0
-  ToldForStep s = Leads false false (WritesForStep token_of is_added (bare_optional_expression (words_of says) s)) (for_step string_has table_has (chosen_optional_expression (words_of source.bytes) keeps s))
+  ToldForStep s = Leads false false (WritesForStep token_of is_added (chosen_optional_expression (words_of says) standing s)) (for_step string_has table_has (chosen_optional_expression (words_of source.bytes) as_here s))
 
   -- ---- lists with separators
 
   abbrev written_expressions : List Expr → syntax.Expressions Words
-  written_expressions es = chosen_expressions (words_of source.bytes) keeps (expressions_of (map syntax_of_expr es))
+  written_expressions es = chosen_expressions (words_of source.bytes) as_here (expressions_of (map syntax_of_expr es))
 
   abbrev written_arms : List Arm → syntax.Arms Words
-  written_arms those = chosen_arms (words_of source.bytes) keeps (arms_of (map syntax_of_arm those))
+  written_arms those = chosen_arms (words_of source.bytes) as_here (arms_of (map syntax_of_arm those))
 
   behind_comma : {from to : Bool} {Kind : List TextWord → Type 0} {after : Drafts} {i k : ℕ} {es : List Expr} → AreExprs toks i k es → (more : List Draft)
       → Reads from to Kind (drafts (tight ∷ word (codes ",") ∷ space ∷ expressions string_has table_has (written_expressions es) more)) after → Reads from to Kind (drafts (more_expressions string_has table_has (written_expressions es) more)) after
@@ -186,14 +190,14 @@ module _ (toks : List Tok) (source : Source toks) (string_has table_has : Bool �
   -- ---- what holds others
 
   list_told : {i k : ℕ} {es : List Expr} (had : Bool) → AreExprs toks i k es → ToldExprs (expressions_of (map syntax_of_expr es)) → ToldBroken (expressions_of (map syntax_of_expr es))
-      → Leads false false (WritesArgs token_of is_added (syntax.arguments tt true (bare_expressions (words_of says) (expressions_of (map syntax_of_expr es))))) (arguments string_has table_has (syntax.arguments tt had (written_expressions es)))
-  list_told had (g.one_expr {e} _) told told_broken = tell_items string_has table_has _ (fits source.bytes says (syntax_of_expr e) syntax.no_expressions) had _ _ refl told told_broken
-  list_told had (g.more_exprs {e} {es} _ _ _) told told_broken = tell_items string_has table_has _ (fits source.bytes says (syntax_of_expr e) (expressions_of (map syntax_of_expr es))) had _ _ refl told told_broken
+      → Leads false false (WritesArgs token_of is_added (syntax.arguments tt (standing (expressions_of (map syntax_of_expr es)) had) (chosen_expressions (words_of says) standing (expressions_of (map syntax_of_expr es))))) (arguments string_has table_has (syntax.arguments tt had (written_expressions es)))
+  list_told had (g.one_expr {e} _) told told_broken = tell_items string_has table_has _ (fits source.bytes says standing (syntax_of_expr e) syntax.no_expressions) had _ _ refl told told_broken
+  list_told had (g.more_exprs {e} {es} _ _ _) told told_broken = tell_items string_has table_has _ (fits source.bytes says standing (syntax_of_expr e) (expressions_of (map syntax_of_expr es))) had _ _ refl told told_broken
 
   alone_told : (had : Bool) (s : tokens.Expression) → ToldExpr 1 s
-      → Leads false false (WritesArgs token_of is_added (syntax.arguments tt true (syntax.more_expressions (bare_expression (words_of says) s) syntax.no_expressions))) (arguments string_has table_has (syntax.arguments tt had (syntax.more_expressions (chosen_expression (words_of source.bytes) keeps s) syntax.no_expressions)))
+      → Leads false false (WritesArgs token_of is_added (syntax.arguments tt (standing (syntax.more_expressions s syntax.no_expressions) had) (syntax.more_expressions (chosen_expression (words_of says) standing s) syntax.no_expressions))) (arguments string_has table_has (syntax.arguments tt had (syntax.more_expressions (chosen_expression (words_of source.bytes) as_here s) syntax.no_expressions)))
   alone_told had s told =
-      tell_items string_has table_has _ (fits source.bytes says s syntax.no_expressions) had _ _ refl (λ more. last told (λ t wrote. w.one_expr wrote)) (λ more. last told (λ t wrote. w.one_expr wrote))
+      tell_items string_has table_has _ (fits source.bytes says standing s syntax.no_expressions) had _ _ refl (λ more. last told (λ t wrote. w.one_expr wrote)) (λ more. last told (λ t wrote. w.one_expr wrote))
 
   function_told : (path : List ℕ) {method : Option TextWord} {f : syntax.FunctionBody (Bare TextWord)} {words : List TextWord} → WritesStat token_of is_added (syntax.function_statement tt (first_of_path (map says path)) (rest_of_path (map says path)) method f) words
       → WritesStat token_of is_added (syntax.function_statement tt (option_map says (first_of_path path)) (map says (rest_of_path path)) method f) words
@@ -318,17 +322,17 @@ module _ (toks : List Tok) (source : Source toks) (string_has table_has : Bool �
         (gap (tell_params toks source d_params _ (λ t told. lead (tell_body d_body _) (λ u told_body. keyword word_is.End (done (w.func_body (refl, refl) told (refl, refl) told_body (refl, refl)))))))
 
     tell_body : {i k : ℕ} {x : Block} → IsBlock toks i k x → ToldBody (syntax_of_block x)
-    tell_body (g.block {i} {j} {stats} d_stats) = subst ToldBody (sym (block_of_syntax i j stats)) (tell_inner string_has table_has (chosen_statements (words_of source.bytes) keeps (statements_of (map syntax_of_stat stats))) (tell_first d_stats))
+    tell_body (g.block {i} {j} {stats} d_stats) = subst ToldBody (sym (block_of_syntax i j stats)) (tell_inner string_has table_has (chosen_statements (words_of source.bytes) as_here (statements_of (map syntax_of_stat stats))) (tell_first d_stats))
 
     tell_first : {i k : ℕ} {x : List Stat} → AreStats toks i k x → ToldFirst (statements_of (map syntax_of_stat x))
     tell_first g.no_stats = w.no_stats
     tell_first (g.last_stat d_s) = tell_last_first string_has table_has (tell_return d_s)
-    tell_first (g.more_stats {stats} d_s d_stats) = tell_more_first string_has table_has (chosen_statements (words_of source.bytes) keeps (statements_of (map syntax_of_stat stats))) (tell_stat d_s) (tell_first d_stats) (tell_later d_stats)
+    tell_first (g.more_stats {stats} d_s d_stats) = tell_more_first string_has table_has (chosen_statements (words_of source.bytes) as_here (statements_of (map syntax_of_stat stats))) (tell_stat d_s) (tell_first d_stats) (tell_later d_stats)
 
     tell_later : {i k : ℕ} {x : List Stat} → AreStats toks i k x → ToldLater (statements_of (map syntax_of_stat x))
     tell_later g.no_stats = λ more. done (record { wrote = w.no_stats; shut = tt })
     tell_later (g.last_stat d_s) = tell_last_later string_has table_has (tell_return d_s)
-    tell_later (g.more_stats {stats} d_s d_stats) = tell_more_later string_has table_has (chosen_statements (words_of source.bytes) keeps (statements_of (map syntax_of_stat stats))) (tell_stat d_s) (tell_later d_stats)
+    tell_later (g.more_stats {stats} d_s d_stats) = tell_more_later string_has table_has (chosen_statements (words_of source.bytes) as_here (statements_of (map syntax_of_stat stats))) (tell_stat d_s) (tell_later d_stats)
 
     tell_return : {i k : ℕ} {x : Stat} → IsReturn toks i k x → ToldReturn (syntax_of_stat x)
     tell_return (g.return_nothing {i} {k} _ _) = subst ToldReturn (sym (return_syntax i k [])) (tells_return (lone_keyword word_is.Return (w.return_nothing (refl, refl) w.no_semicolon)))
@@ -397,4 +401,4 @@ module _ (toks : List Tok) (source : Source toks) (string_has table_has : Bool �
     tell_for_step (g.a_for_step _ d_e) = λ more. gap (sign sign_is.Comma (gap (last (tell_expr d_e) (λ t told. w.a_for_step (refl, refl) told))))
 
   pub tell_main : {i k : ℕ} {x : Block} → IsBlock toks i k x → ToldMain (syntax_of_block x)
-  tell_main (g.block {i} {j} {stats} d_stats) = subst ToldMain (sym (block_of_syntax i j stats)) (tell_source string_has table_has (chosen_statements (words_of source.bytes) keeps (statements_of (map syntax_of_stat stats))) (tell_first d_stats))
+  tell_main (g.block {i} {j} {stats} d_stats) = subst ToldMain (sym (block_of_syntax i j stats)) (tell_source string_has table_has (chosen_statements (words_of source.bytes) as_here (statements_of (map syntax_of_stat stats))) (tell_first d_stats))

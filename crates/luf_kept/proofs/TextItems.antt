@@ -5,56 +5,57 @@ use Rattle.luf_lex.specs.declared.token.Word.TheVariants as word_is
 use Rattle.luf_lex.specs.declared.token.Sign.TheVariants as sign_is
 use Rattle.luf_tree.specs.Syntax as syntax
 use Rattle.luf_tree.specs.TokenSyntax as tokens
-use Rattle.luf_bare.specs.Bare.{Bare, words_of, always, before, chosen_expression, chosen_expressions, chosen_field, chosen_fields}
-use Rattle.luf_bare.specs.Lone.{is_lone, is_lone_item}
+use Rattle.luf_bare.specs.Bare.{Bare, words_of, as_here, before, chosen_expression, chosen_expressions, chosen_field, chosen_fields}
+use Rattle.luf_bare.specs.Lone.{is_lone, is_lone_item, item_enclosed, items_enclosed, by_kind}
 use Rattle.luf_bare.specs.ReadBack.{TextWord, token_of, is_added}
 use Rattle.luf_bare.specs.Texts as w
 use Rattle.luf_bare.specs.Texts.{WritesExpr, WritesSimple, WritesArgs, WritesExprs, WritesTable, WritesFields, WritesField, WritesBlock, WritesStats, WritesReturn, WritesStat, WritesElse}
 use Rattle.luf_draft.specs.Draft.{Draft, word, trail, nothing, drafts, before_statement, source_ends}
 use Rattle.luf_draft.specs.Form.{Items, lone_string, lone_table, with_block, plain_items, items_of, kind_of_one, kind_of_last, last_kind, Words, lone, arguments_as, expression, field, more_fields, statement, statements, body, main, opens, first_word}
 use Rattle.luf_kept.proofs.TextParts.{own, Stands, Reads, done, sign, extra_sign, gap, may_trail, part, lead, follow, last, whole, grouped, nested, lone_gap, opened, to_end}
-use Rattle.luf_kept.proofs.TextNames.{keeps, Leads}
+use Rattle.luf_kept.proofs.TextNames.{Leads}
 use Rattle.luf_kept.proofs.TextGuards.{Later, GoesOn, tell_guarded}
 
 -- ---- arguments
 
--- which of them are lone
-pub data Fits : Items → Bool → Type 0 where
-  string_fits : Fits lone_string true
-  table_fits : Fits lone_table true
-  block_fits : Fits with_block false
-  plain_fits : Fits plain_items false
+-- which of them are lone, and which stand in parentheses, by whether one string does and whether one table does
+pub data Fits : Items → Bool → (Bool → Bool → Bool) → Type 0 where
+  string_fits : Fits lone_string true (λ of_string of_table. of_string)
+  table_fits : Fits lone_table true (λ of_string of_table. of_table)
+  block_fits : Fits with_block false (λ of_string of_table. true)
+  plain_fits : Fits plain_items false (λ of_string of_table. true)
 
-module _ (bytes : ℕ → List ℕ) (says : ℕ → TextWord) where
+module _ (bytes : ℕ → List ℕ) (says : ℕ → TextWord) (encloses : tokens.Expressions → Bool → Bool) where
   abbrev as_written : tokens.Expression → syntax.Expression Words
-  as_written e = chosen_expression (words_of bytes) keeps e
+  as_written e = chosen_expression (words_of bytes) as_here e
 
-  abbrev bare : tokens.Expression → syntax.Expression (Bare TextWord)
-  bare e = chosen_expression (words_of says) always e
+  abbrev of_text : tokens.Expression → syntax.Expression (Bare TextWord)
+  of_text e = chosen_expression (words_of says) encloses e
 
-  fits_last : (e : tokens.Expression) → Fits (last_kind (as_written e)) false
+  fits_last : (e : tokens.Expression) → Fits (last_kind (as_written e)) false (λ of_string of_table. true)
   fits_last (syntax.function span inner) = block_fits
   fits_last (syntax.table span items) = block_fits
   fits_last _ = plain_fits
 
-  fits_one : (e : tokens.Expression) → Fits (kind_of_one (as_written e)) (is_lone_item (bare e))
+  fits_one : (e : tokens.Expression) → Fits (kind_of_one (as_written e)) (is_lone_item (of_text e)) (λ of_string of_table. item_enclosed of_string of_table e)
   fits_one (syntax.string span value) = string_fits
   fits_one (syntax.table span items) = table_fits
   fits_one (syntax.function span inner) = block_fits
   fits_one _ = plain_fits
 
-  fits_behind : (last : tokens.Expression) (rest : tokens.Expressions) → Fits (kind_of_last (as_written last) (chosen_expressions (words_of bytes) keeps rest)) false
+  fits_behind : (last : tokens.Expression) (rest : tokens.Expressions) → Fits (kind_of_last (as_written last) (chosen_expressions (words_of bytes) as_here rest)) false (λ of_string of_table. true)
   fits_behind last syntax.no_expressions = fits_last last
   fits_behind last (syntax.more_expressions e rest) = fits_behind e rest
 
   pub fits : (e : tokens.Expression) (rest : tokens.Expressions)
-      → Fits (items_of (chosen_expressions (words_of bytes) keeps (syntax.more_expressions e rest))) (is_lone (chosen_expressions (words_of says) always (syntax.more_expressions e rest)))
+      → Fits (items_of (chosen_expressions (words_of bytes) as_here (syntax.more_expressions e rest))) (is_lone (chosen_expressions (words_of says) encloses (syntax.more_expressions e rest)))
+      (λ of_string of_table. items_enclosed of_string of_table (syntax.more_expressions e rest))
   fits e syntax.no_expressions = fits_one e
   fits e (syntax.more_expressions f rest) = fits_behind f rest
 
 -- a lone argument without parentheses
 lone_simple : {e : syntax.Expression (Bare TextWord)} {words : List TextWord} → WritesSimple token_of is_added e words → is_lone_item e ≡ true
-    → WritesArgs token_of is_added (syntax.arguments tt true (syntax.more_expressions e syntax.no_expressions)) words
+    → WritesArgs token_of is_added (syntax.arguments tt false (syntax.more_expressions e syntax.no_expressions)) words
 lone_simple (w.string_simple t) lone = w.string_args t
 lone_simple (w.table_simple t) lone = w.table_args t
 lone_simple (w.prefix_simple (w.variable_prefix (w.name_variable _))) lone = absurd cc
@@ -64,26 +65,26 @@ lone_simple (w.prefix_simple (w.paren_prefix (w.paren _ _ _))) lone = absurd cc
 lone_simple _ lone = absurd cc
 
 lone_expr : {n : ℕ} {e : syntax.Expression (Bare TextWord)} {words : List TextWord} → WritesExpr token_of is_added n e words → is_lone_item e ≡ true
-    → WritesArgs token_of is_added (syntax.arguments tt true (syntax.more_expressions e syntax.no_expressions)) words
+    → WritesArgs token_of is_added (syntax.arguments tt false (syntax.more_expressions e syntax.no_expressions)) words
 lone_expr (w.operand_expr (w.simple_operand e)) lone = lone_simple e lone
 lone_expr (w.operand_expr (w.unary_operand _ _)) lone = absurd cc
 lone_expr (w.operand_expr (w.power_operand _ _ _)) lone = absurd cc
 lone_expr (w.chain_expr _ _ _ _) lone = absurd cc
 
-lone_words : {es : syntax.Expressions (Bare TextWord)} {words : List TextWord} → WritesExprs token_of is_added es words → is_lone es ≡ true → WritesArgs token_of is_added (syntax.arguments tt true es) words
+lone_words : {es : syntax.Expressions (Bare TextWord)} {words : List TextWord} → WritesExprs token_of is_added es words → is_lone es ≡ true → WritesArgs token_of is_added (syntax.arguments tt false es) words
 lone_words (w.one_expr e) lone = lone_expr e lone
 lone_words (w.more_exprs _ _ (w.one_expr _)) lone = absurd cc
 lone_words (w.more_exprs _ _ (w.more_exprs _ _ _)) lone = absurd cc
 
 module _ (string_has table_has : Bool → Bool) (es : syntax.Expressions (Bare TextWord)) where
   tell_lone : (paren : Bool) (listed : List Draft → List Draft) → is_lone es ≡ true → Leads true false (WritesExprs token_of is_added es) listed
-      → Leads false false (WritesArgs token_of is_added (syntax.arguments tt true es)) (lone string_has table_has paren listed)
+      → Leads false false (WritesArgs token_of is_added (syntax.arguments tt paren es)) (lone string_has table_has paren listed)
   tell_lone true listed is told = λ more. extra_sign sign_is.LeftParen (gap (lead (told (word (codes ")") ∷ more)) (λ t wrote. extra_sign sign_is.RightParen (done (w.lone_args (refl, refl) wrote (refl, refl) is)))))
   tell_lone false listed is told = λ more. gap (follow (told more) (λ t wrote. lone_words wrote is))
 
-  pub tell_items : {items : Items} {is_one : Bool} → Fits items is_one → (had : Bool) (listed broken : List Draft → List Draft) → is_lone es ≡ is_one
+  pub tell_items : {items : Items} {is_one : Bool} {encloses : Bool → Bool → Bool} → Fits items is_one encloses → (had : Bool) (listed broken : List Draft → List Draft) → is_lone es ≡ is_one
       → Leads true false (WritesExprs token_of is_added es) listed → Leads true false (WritesExprs token_of is_added es) broken
-      → Leads false false (WritesArgs token_of is_added (syntax.arguments tt true es)) (arguments_as string_has table_has items had listed broken)
+      → Leads false false (WritesArgs token_of is_added (syntax.arguments tt (encloses (string_has had) (table_has had)) es)) (arguments_as string_has table_has items had listed broken)
   tell_items string_fits had listed broken is told told_broken = λ more. tell_lone (string_has had) listed is told more
   tell_items table_fits had listed broken is told told_broken = λ more. tell_lone (table_has had) listed is told more
   tell_items block_fits had listed broken is told told_broken =
@@ -99,16 +100,16 @@ module _ (string_has table_has : Bool → Bool) (bytes : ℕ → List ℕ) (says
   fields_form (syntax.more_fields first rest) = field string_has table_has first (more_fields string_has table_has rest)
 
   abbrev pub TellsField : tokens.Field → Type 0
-  TellsField s = Leads true false (WritesField token_of is_added (chosen_field (words_of says) always s)) (field string_has table_has (chosen_field (words_of bytes) keeps s))
+  TellsField s = Leads true false (WritesField token_of is_added (chosen_field (words_of says) (by_kind string_has table_has) s)) (field string_has table_has (chosen_field (words_of bytes) as_here s))
 
   -- where there are any
   abbrev pub TellsFields : tokens.Fields → Type 0
   TellsFields syntax.no_fields = Unit {0}
   TellsFields (syntax.more_fields first rest) =
-      Reads true false (WritesFields token_of is_added (chosen_fields (words_of says) always (syntax.more_fields first rest))) (drafts (fields_form (chosen_fields (words_of bytes) keeps (syntax.more_fields first rest)))) nothing
+      Reads true false (WritesFields token_of is_added (chosen_fields (words_of says) (by_kind string_has table_has) (syntax.more_fields first rest))) (drafts (fields_form (chosen_fields (words_of bytes) as_here (syntax.more_fields first rest)))) nothing
 
   abbrev pub TellsTable : tokens.Fields → Type 0
-  TellsTable s = Stands true false (WritesTable token_of is_added (chosen_fields (words_of says) always s)) (expression string_has table_has (syntax.table tt (chosen_fields (words_of bytes) keeps s)))
+  TellsTable s = Stands true false (WritesTable token_of is_added (chosen_fields (words_of says) (by_kind string_has table_has) s)) (expression string_has table_has (syntax.table tt (chosen_fields (words_of bytes) as_here s)))
 
   pub tell_more_fields : (first : tokens.Field) (rest : tokens.Fields) → TellsField first → TellsFields rest → TellsFields (syntax.more_fields first rest)
   tell_more_fields first syntax.no_fields told told_rest =

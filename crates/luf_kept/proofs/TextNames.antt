@@ -8,9 +8,8 @@ use Rattle.luf_tree.specs.declared.tree.Declared.{Declared}
 use Rattle.luf_tree.specs.Grammar as g
 use Rattle.luf_tree.specs.Grammar.{IsToken, AreNames, AreParams, IsAttribute, AreDeclared, IsPath, IsMethod}
 use Rattle.luf_tree.specs.Syntax as syntax
-use Rattle.luf_tree.specs.TokenSyntax as tokens
 use Rattle.luf_tree.specs.SyntaxOf.{declared_of, first_of_path, rest_of_path}
-use Rattle.luf_bare.specs.Bare.{words_of, bare_declared, chosen_declared}
+use Rattle.luf_bare.specs.Bare.{words_of, as_here, bare_declared, chosen_declared}
 use Rattle.luf_lex.specs.Spelling.{Spells}
 use Rattle.luf_lex.specs.declared.token.Kind.TheVariants.{Token}
 use Rattle.luf_bare.specs.ReadBack.{TextWord, token_of, is_added, own_word}
@@ -27,10 +26,6 @@ pub record Source (toks : List Tok) : Type 0 where
   pub token : ℕ → Tok
   pub kinds : (i : ℕ) (t : Tok) → slice_get toks i ≡ Some t → token i ≡ t
   pub spelled : (i : ℕ) (t : Tok) → slice_get toks i ≡ Some t → Spells (Token t) (bytes i)
-
--- parentheses as they stand
-abbrev pub keeps : tokens.Span → Bool → Bool
-keeps span had = had
 
 -- a form that is put before the drafts that follow it: its words are a text of this kind
 abbrev pub Leads : Bool → Bool → (List TextWord → Type 0) → (List Draft → List Draft) → Type 0
@@ -127,7 +122,7 @@ module _ (toks : List Tok) (source : Source toks) where
   tell_attribute (g.an_attribute {j} _ t _) = λ more. gap (sign sign_is.Less (gap (leaf t (gap (sign sign_is.Greater (done (w.an_attribute (refl, refl) (says_keeps t) (refl, refl))))))))
 
   abbrev declared_words : List Declared → List (syntax.DeclaredName Words)
-  declared_words ds = map (chosen_declared (words_of source.bytes) keeps) (map declared_of ds)
+  declared_words ds = map (chosen_declared (words_of source.bytes) as_here) (map declared_of ds)
 
   more_declared_comma : {from to : Bool} {Kind : List TextWord → Type 0} {after : Drafts} {i k : ℕ} {ds : List Declared} → AreDeclared toks i k ds → (more : List Draft)
       → Reads from to Kind (drafts (tight ∷ word (codes ",") ∷ space ∷ declared (declared_words ds) more)) after → Reads from to Kind (drafts (more_declared (declared_words ds) more)) after

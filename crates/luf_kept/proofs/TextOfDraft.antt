@@ -8,24 +8,26 @@ use Rattle.luf_tree.specs.declared.tree.Chunk.{Chunk}
 use Rattle.luf_tree.specs.Grammar.{IsChunk}
 use Rattle.luf_tree.specs.SyntaxOf.{syntax_of}
 use Rattle.luf_scope.specs.Local.{Spelling}
-use Rattle.luf_bare.specs.Bare.{words_of, bare_block, chosen_block}
-use Rattle.luf_bare.specs.ReadBack.{SpelledToken, TextWord, token_of, is_added, spelled_at, word_at, program, significant_words, AreSpelled, spelled_by, IsRead, IsReadBack}
+use Rattle.luf_tree.specs.TokenSyntax as tokens
+use Rattle.luf_bare.specs.Bare.{words_of, as_here, bare_block, chosen_block}
+use Rattle.luf_bare.specs.Lone.{by_kind}
+use Rattle.luf_bare.specs.ReadBack.{SpelledToken, TextWord, token_of, is_added, spelled_at, word_at, program, program_with, significant_words, AreSpelled, spelled_by, IsRead, IsReadAs, IsReadBack}
 use Rattle.luf_lex.specs.Spelling.{Spells}
 use Rattle.luf_lex.specs.declared.token.Kind.TheVariants.{Token}
 use Rattle.luf_bare.specs.Significant.{IsFixed}
 use Rattle.luf_bare.specs.Texts.{WritesBlock}
 use Rattle.luf_bare.specs.Writing.{written_block}
 use Rattle.luf_bare.proofs.EachWritten.{Each, all_none, all_more}
-use Rattle.luf_bare.proofs.ReadBackLaws.{text_is_read, significant_are_written, spelled_alike}
+use Rattle.luf_bare.proofs.ReadBackLaws.{text_is_read, read_as_bare, significant_are_written, spelled_alike}
 use Rattle.luf_min.specs.Minified.{fixed_spelling, spelled_tokens, spellings}
 use Rattle.luf_min.proofs.SpelledTokens.{tokens_of_spelled}
 use Rattle.luf_draft.specs.Draft.{Draft}
 use Rattle.luf_draft.specs.Form.{main}
 use Rattle.luf_kept.specs.inner.Marks.{Marks}
 use Rattle.luf_kept.specs.inner.Takes.{Takes}
-use Rattle.luf_kept.specs.inner.DraftText.{IsWritten, IsSpelled, AreTokens, DraftText, DraftIsText}
+use Rattle.luf_kept.specs.inner.DraftText.{IsWritten, IsSpelled, AreTokens, drafted_program, DraftText, DraftIsText}
 use Rattle.luf_kept.proofs.TextParts.{fixed_so, Told, Stood, Stands}
-use Rattle.luf_kept.proofs.TextNames.{Source, keeps}
+use Rattle.luf_kept.proofs.TextNames.{Source}
 use Rattle.luf_kept.proofs.TextForms.{tell_main}
 
 -- ---- a text of the program is read back
@@ -65,10 +67,10 @@ text_significant text tree all derived =
     (λ i. subst (λ (w : SpelledToken). IsFixed w.token → w.spelling ≡ fixed_spelling w.token) (sym (spelled_words text i)) (each_fixed all i))
     ∙ ap (λ (says : ℕ → SpelledToken). own_words says tree) alike
 
-pub text_is_back : (source : List SpelledToken) (chunk : Chunk) (text : List TextWord) → IsChunk (map (λ (w : SpelledToken). w.token) source) chunk → AreSpelled fixed_spelling source
-    → Each IsSpelled text → WritesBlock token_of is_added (program source chunk) text → IsReadBack source chunk text
-text_is_back source chunk text derived are_spelled all wrote =
-    let read : IsRead text (program source chunk) = text_is_read (program source chunk) text wrote in
+abbrev text_is_back : (encloses : tokens.Expressions → Bool → Bool) (source : List SpelledToken) (chunk : Chunk) (text : List TextWord) → IsChunk (map (λ (w : SpelledToken). w.token) source) chunk
+    → AreSpelled fixed_spelling source → Each IsSpelled text → IsReadAs text (program_with encloses source chunk) → IsReadBack source chunk text
+text_is_back encloses source chunk text derived are_spelled all found =
+    let read : IsRead text (program source chunk) = read_as_bare encloses source chunk text found in
     record {
       read = read;
       significant = text_significant text read.tree all read.is_tree
@@ -139,23 +141,27 @@ module _ (toks : List Tok) (written : List (List ℕ)) (is : IsWritten toks writ
   derived_words : (chunk : Chunk) → IsChunk toks chunk → IsChunk (map (λ (w : SpelledToken). w.token) source_words) chunk
   derived_words chunk derived = subst (λ ts. IsChunk ts chunk) (sym (tokens_of_spelled told 0 toks)) derived
 
-  from_text : (chunk : Chunk) → IsChunk toks chunk → (draft : Draft) (words : List (List ℕ)) (takes : Takes draft words [])
-      → (found : Told (WritesBlock token_of is_added (program source_words chunk)) words []) × Marks draft words [] takes found.text [] false true → DraftText toks written chunk draft words takes
-  from_text chunk derived draft words takes found = record {
-    text = found.0.text;
-    words_are = sym (append-nil (spellings found.0.text)) ∙ sym found.0.spelled.same;
-    wrote = found.0.wrote;
-    back = text_is_back source_words chunk found.0.text (derived_words chunk derived) all_fixed found.0.spelled.each found.0.wrote;
-    spelled = each_spelled found.0.spelled.each;
-    marked = found.1;
-  }
+  from_text : (string_has table_has : Bool → Bool) (chunk : Chunk) → IsChunk toks chunk → (draft : Draft) (words : List (List ℕ)) (takes : Takes draft words [])
+      → (found : Told (WritesBlock token_of is_added (drafted_program toks written string_has table_has chunk)) words []) × Marks draft words [] takes found.text [] false true
+      → DraftText toks written string_has table_has chunk draft words takes
+  from_text string_has table_has chunk derived draft words takes found =
+      let read : IsReadAs found.0.text (drafted_program toks written string_has table_has chunk) = text_is_read (drafted_program toks written string_has table_has chunk) found.0.text found.0.wrote in
+      record {
+        text = found.0.text;
+        words_are = sym (append-nil (spellings found.0.text)) ∙ sym found.0.spelled.same;
+        wrote = found.0.wrote;
+        back = text_is_back (by_kind string_has table_has) source_words chunk found.0.text (derived_words chunk derived) all_fixed found.0.spelled.each read;
+        same = read.same;
+        spelled = each_spelled found.0.spelled.each;
+        marked = found.1;
+      }
 
-  text_of_words : (string_has table_has : Bool → Bool) (chunk : Chunk) → IsChunk toks chunk → (words : List (List ℕ)) → (takes : Takes (main string_has table_has (chosen_block (words_of told) keeps (syntax_of chunk))) words [])
-      → DraftText toks written chunk (main string_has table_has (chosen_block (words_of told) keeps (syntax_of chunk))) words takes
+  text_of_words : (string_has table_has : Bool → Bool) (chunk : Chunk) → IsChunk toks chunk → (words : List (List ℕ)) → (takes : Takes (main string_has table_has (chosen_block (words_of told) as_here (syntax_of chunk))) words [])
+      → DraftText toks written string_has table_has chunk (main string_has table_has (chosen_block (words_of told) as_here (syntax_of chunk))) words takes
   text_of_words string_has table_has chunk derived words takes =
       let alike : told ≡ source.bytes = λ k i. sym (bytes_at i (spelled_at source_words i) (told_at told 0 toks i)) k in
-      from_text chunk derived (main string_has table_has (chosen_block (words_of told) keeps (syntax_of chunk))) words takes
-      (told_along (λ bytes. main string_has table_has (chosen_block (words_of bytes) keeps (syntax_of chunk))) alike (tell_main toks source string_has table_has derived) words takes)
+      from_text string_has table_has chunk derived (main string_has table_has (chosen_block (words_of told) as_here (syntax_of chunk))) words takes
+      (told_along (λ bytes. main string_has table_has (chosen_block (words_of bytes) as_here (syntax_of chunk))) alike (tell_main toks source string_has table_has derived) words takes)
 
 pub draft_is_text : DraftIsText
 draft_is_text toks written string_has table_has chunk derived is words takes = text_of_words toks written is string_has table_has chunk derived words takes
