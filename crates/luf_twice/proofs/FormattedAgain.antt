@@ -18,17 +18,17 @@ use Rattle.luf_again.specs.Shown.{shown}
 use Rattle.luf_again.specs.Tells.{untold}
 use Rattle.luf_twice.specs.Chooses.{Chooses}
 use Rattle.luf_twice.specs.Ready.{HasWords}
-use Rattle.luf_twice.specs.Twice.{draft_of, IsSettled}
+use Rattle.luf_twice.specs.Twice.{draft_of}
 use Rattle.luf_twice.proofs.ReadAgain.{ReadsAgain, read_again}
 use Rattle.luf_twice.proofs.TwiceIsOnce.{twice_is_once}
 
 module _ (o : Options) (source text : List ℕ) (f : IsFormatted (choices_of o) source text) where
   pub formatted_again : (head body : List Piece) → IsHead head → Lexed text [] (layout.pieces (choices_of o).page f.document) body → IsCut text (head ++ body)
-      → hash_text text ≡ hash_text source → IsSettled (choices_of o) → HasWords (draft_of (choices_of o) f.styled.written f.chunk)
+      → hash_text text ≡ hash_text source → HasWords (draft_of (choices_of o) f.styled.written f.chunk)
       → Chooses (dropped_block (syntax_of (back o source text f).read.tree) []) (reread_whole is_short (choices_of o).page f.document) untold (shown is_short (layout.pieces (choices_of o).page f.document)) false true
       → IsFormatted (choices_of o) text text
-  formatted_again head body is_head lexed cut hash any has chosen =
-      let reads : ReadsAgain (choices_of o) text (head ++ body) (back o source text f).read.tree (draft_of (choices_of o) f.styled.written f.chunk) = read_again o source text f (head ++ body) cut any in
+  formatted_again head body is_head lexed cut hash has chosen =
+      let reads : ReadsAgain (choices_of o) text (head ++ body) (back o source text f).read.tree (draft_of (choices_of o) f.styled.written f.chunk) = read_again o source text f (head ++ body) cut in
       twice_is_once (choices_of o) source text f.pieces f.chunk f.document f.cut f.styled f.is
       (chunk_steps (toks_of f.pieces) f.chunk f.tree f.styled.written (keeps_round_string o.calls) (keeps_round_table o.calls)) has
       (record {

@@ -14,39 +14,38 @@ use Rattle.luf_tree.specs.Grammar.{IsChunk}
 use Rattle.luf_tree.specs.Syntax as syntax
 use Rattle.luf_tree.specs.SyntaxMap.{ShapeMap, map_block}
 use Rattle.luf_tree.specs.SyntaxOf.{syntax_of}
-use Rattle.luf_bare.specs.Bare.{Bare, words_of, always, bare_block}
-use Rattle.luf_bare.specs.ReadBack.{SpelledToken, TextWord, token_of, spelled_at, word_at, own_word, program, IsRead}
+use Rattle.luf_tree.specs.TokenSyntax as tokens
+use Rattle.luf_bare.specs.Bare.{Bare, words_of, as_here, chosen_block}
+use Rattle.luf_bare.specs.Lone.{by_kind}
+use Rattle.luf_bare.specs.ReadBack.{SpelledToken, TextWord, token_of, spelled_at, word_at, own_word}
 use Rattle.luf_bare.proofs.BareMap.{block_after}
 use Rattle.luf_min.specs.Minified.{spelled_tokens, spellings}
 use Rattle.luf_draft.specs.Draft.{Draft}
 use Rattle.luf_draft.specs.Form.{Words, main}
 use Rattle.luf_style.specs.Styled.{Choices, AreWritten, IsFormatted, choices_of}
-use Rattle.luf_kept.specs.inner.DraftText.{IsWritten}
+use Rattle.luf_kept.specs.inner.DraftText.{IsWritten, drafted_program}
 use Rattle.luf_kept.proofs.KeptLaws.{draft_text, text_words, back, again, is_written}
 use Rattle.luf_kept.proofs.TextOfDraft.{all_bytes}
-use Rattle.luf_twice.specs.Twice.{draft_of, IsSettled}
+use Rattle.luf_twice.specs.Twice.{draft_of}
 use Rattle.luf_twice.proofs.SameDraft.{main_same}
 use Rattle.luf_twice.proofs.WrittenAgain.{written_again}
 
--- the style that keeps what the source has is the only one that is not settled
-pub settled : (o : Options) → (o.calls ≡ style.Input → ⊥) → IsSettled (choices_of o)
-settled o other = (λ had also. string_settled o.calls had also other, λ had also. table_settled o.calls had also other)
-  where
-    string_settled : (calls : CallStyle) (had also : Bool) → (calls ≡ style.Input → ⊥) → keeps_round_string calls had ≡ keeps_round_string calls also
-    string_settled style.Always had also other = refl
-    string_settled style.NoSingleString had also other = refl
-    string_settled style.NoSingleTable had also other = refl
-    string_settled style.None had also other = refl
-    string_settled style.Input had also other = absurd (other refl)
+-- a style that is given its own answer gives it again
+string_again : (calls : CallStyle) (had : Bool) → keeps_round_string calls (keeps_round_string calls had) ≡ keeps_round_string calls had
+string_again style.Always had = refl
+string_again style.NoSingleString had = refl
+string_again style.NoSingleTable had = refl
+string_again style.None had = refl
+string_again style.Input had = refl
 
-    table_settled : (calls : CallStyle) (had also : Bool) → (calls ≡ style.Input → ⊥) → keeps_round_table calls had ≡ keeps_round_table calls also
-    table_settled style.Always had also other = refl
-    table_settled style.NoSingleString had also other = refl
-    table_settled style.NoSingleTable had also other = refl
-    table_settled style.None had also other = refl
-    table_settled style.Input had also other = absurd (other refl)
+table_again : (calls : CallStyle) (had : Bool) → keeps_round_table calls (keeps_round_table calls had) ≡ keeps_round_table calls had
+table_again style.Always had = refl
+table_again style.NoSingleString had = refl
+table_again style.NoSingleTable had = refl
+table_again style.None had = refl
+table_again style.Input had = refl
 
--- ---- the bare programs by spellings
+-- ---- the programs by spellings
 
 spelling_at : (text : List TextWord) (n : ℕ) → (word_at text n).spelled.spelling ≡ get_or (spellings text) n []
 spelling_at [] n = refl
@@ -57,27 +56,31 @@ spelling_at (w ∷ text) (suc n) = spelling_at text n
 abbrev to_bytes : ShapeMap (Bare TextWord) Words
 to_bytes = record { span = λ s. s; name = λ w. w.spelled.spelling; label = λ w. w.spelled.spelling; leaf = λ w. w.spelled.spelling }
 
--- the bare program of a chunk whose tokens are spelled so
-abbrev bare_words : (ℕ → List ℕ) → Chunk → syntax.Block Words
-bare_words says chunk = bare_block (words_of says) (syntax_of chunk)
+-- the program of a chunk whose tokens are spelled so
+abbrev program_words : (tokens.Expressions → Bool → Bool) → (ℕ → List ℕ) → Chunk → syntax.Block Words
+program_words encloses says chunk = chosen_block (words_of says) encloses (syntax_of chunk)
 
-module _ (toks : List Tok) (written : List (List ℕ)) (is : IsWritten toks written) (chunk : Chunk) (text : List TextWord) where
+module _ (o : Options) (toks : List Tok) (written : List (List ℕ)) (is : IsWritten toks written) (chunk : Chunk) (text : List TextWord) where
   abbrev source : List SpelledToken
   source = spelled_tokens (λ i. get_or written i []) 0 toks
 
-  same_bare : (read : IsRead text (program source chunk)) → bare_words (λ n. get_or (spellings text) n []) read.tree ≡ bare_words (λ n. get_or written n []) chunk
-  same_bare read =
-      (λ i. bare_words (λ n. sym (spelling_at text n) i) read.tree)
-      ∙ sym (block_after to_bytes (words_of (word_at text)) always (syntax_of read.tree))
-      ∙ ap (map_block to_bytes) read.same
-      ∙ block_after to_bytes (words_of (λ n. own_word (spelled_at source n))) always (syntax_of chunk)
-      ∙ (λ i. bare_words (λ n. all_bytes toks written is n i) chunk)
+  abbrev standing : tokens.Expressions → Bool → Bool
+  standing = by_kind (keeps_round_string o.calls) (keeps_round_table o.calls)
 
-  pub same_draft : (choices : Choices) → IsSettled choices → (read : IsRead text (program source chunk)) → draft_of choices (spellings text) read.tree ≡ draft_of choices written chunk
-  same_draft choices any read =
-      main_same choices.string_has choices.table_has any.0 any.1 (words_of (λ n. get_or (spellings text) n [])) (λ span had. had) always (syntax_of read.tree)
-      ∙ ap (main choices.string_has choices.table_has) (same_bare read)
-      ∙ main_same choices.string_has choices.table_has any.0 any.1 (words_of (λ n. get_or written n [])) always (λ span had. had) (syntax_of chunk)
+  same_program : (tree : Chunk) → chosen_block (words_of (word_at text)) as_here (syntax_of tree) ≡ drafted_program toks written (keeps_round_string o.calls) (keeps_round_table o.calls) chunk
+      → program_words as_here (λ n. get_or (spellings text) n []) tree ≡ program_words standing (λ n. get_or written n []) chunk
+  same_program tree same =
+      (λ i. program_words as_here (λ n. sym (spelling_at text n) i) tree)
+      ∙ sym (block_after to_bytes (words_of (word_at text)) as_here (syntax_of tree))
+      ∙ ap (map_block to_bytes) same
+      ∙ block_after to_bytes (words_of (λ n. own_word (spelled_at source n))) standing (syntax_of chunk)
+      ∙ (λ i. program_words standing (λ n. all_bytes toks written is n i) chunk)
+
+  pub same_draft : (tree : Chunk) → chosen_block (words_of (word_at text)) as_here (syntax_of tree) ≡ drafted_program toks written (keeps_round_string o.calls) (keeps_round_table o.calls) chunk
+      → draft_of (choices_of o) (spellings text) tree ≡ draft_of (choices_of o) written chunk
+  same_draft tree same =
+      ap (main (keeps_round_string o.calls) (keeps_round_table o.calls)) (same_program tree same)
+      ∙ main_same (keeps_round_string o.calls) (keeps_round_table o.calls) (string_again o.calls) (table_again o.calls) (words_of (λ n. get_or written n [])) (syntax_of chunk)
 
 -- ---- the text
 
@@ -89,9 +92,8 @@ pub record ReadsAgain (choices : Choices) (text : List ℕ) (pieces : List Piece
   pub same : draft_of choices written chunk ≡ draft
 
 module _ (o : Options) (source text : List ℕ) (f : IsFormatted (choices_of o) source text) where
-  own_cut : IsSettled (choices_of o)
-      → ReadsAgain (choices_of o) text (again o source text f).others (back o source text f).read.tree (draft_of (choices_of o) f.styled.written f.chunk)
-  own_cut any =
+  own_cut : ReadsAgain (choices_of o) text (again o source text f).others (back o source text f).read.tree (draft_of (choices_of o) f.styled.written f.chunk)
+  own_cut =
       let words : List TextWord = text_words o source text f in
       let cut = again o source text f in
       let read = (back o source text f).read in
@@ -102,12 +104,12 @@ module _ (o : Options) (source text : List ℕ) (f : IsFormatted (choices_of o) 
             subst (λ (ts : List Tok). AreWritten (choices_of o).quote ts (spellings_of text cut.others) (spellings words)) (sym cut.toks_are)
             (subst (λ (ss : List (List ℕ)). AreWritten (choices_of o).quote (map token_of words) ss (spellings words)) ((draft_text o source text f).words_are ∙ sym cut.spellings_are)
             (written_again o.quotes (toks_of f.pieces) (spellings_of source f.pieces) f.styled.written f.styled.are_written (is_written o source text f) f.chunk words (back o source text f) (draft_text o source text f).wrote));
-        same = same_draft (toks_of f.pieces) f.styled.written (is_written o source text f) f.chunk words (choices_of o) any read;
+        same = same_draft o (toks_of f.pieces) f.styled.written (is_written o source text f) f.chunk words read.tree (draft_text o source text f).same;
       }
 
   -- each cut of the text is read so
-  pub read_again : (pieces : List Piece) → IsCut text pieces → IsSettled (choices_of o)
+  pub read_again : (pieces : List Piece) → IsCut text pieces
       → ReadsAgain (choices_of o) text pieces (back o source text f).read.tree (draft_of (choices_of o) f.styled.written f.chunk)
-  read_again pieces cut any =
+  read_again pieces cut =
       subst (λ (ps : List Piece). ReadsAgain (choices_of o) text ps (back o source text f).read.tree (draft_of (choices_of o) f.styled.written f.chunk))
-      (one_cut text (again o source text f).others pieces (again o source text f).cut cut) (own_cut any)
+      (one_cut text (again o source text f).others pieces (again o source text f).cut cut) own_cut

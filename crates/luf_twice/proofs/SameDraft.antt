@@ -1,11 +1,13 @@
--- Where it does not matter whether a lone argument stands in parentheses, the draft of a program is that of its bare program.
+-- A style that is given its own answer gives it again: where lone arguments stand in parentheses as the draft has them, the
+-- draft is the same.
 use Rattle.std.proofs.Common.{◌≡◌, Bool, true, false, Option, Some, None, List, [], ◌∷◌, codes, map, refl, sym, ap, ◌∙◌}
 use Rattle.std.specs.Option.{option_map}
 use Rattle.luf_tree.specs.Syntax as syntax
 use Rattle.luf_tree.specs.SyntaxMap.{ShapeMap}
-use Rattle.luf_bare.specs.Bare.{before, chosen_declared, chosen_expression, chosen_optional_expression, chosen_expressions, chosen_operations, chosen_suffix, chosen_suffixes, chosen_arguments, chosen_field, chosen_fields, chosen_statement, chosen_statements, chosen_arm, chosen_arms, chosen_block, chosen_optional_block, chosen_function_body}
-use Rattle.luf_draft.specs.Draft.{Draft, word, nest, group, pieces, tight, space, soft, line, tight_end, soft_end, line_end, before_statement, block_ends, nothing_inside, source_ends, nothing_at_all}
-use Rattle.luf_draft.specs.Form.{Items, no_items, lone_string, lone_table, with_block, plain_items, Words, guarded, words, parameters, with_dots, path, method, behind_sign, bracketed, declared, kind_of_last, kind_of_one, last_kind, items_of, lone, arguments_as, expression, expressions, more_expressions, broken_expressions, more_broken, operations, suffix, suffixes_of, arguments, field, more_fields, function_body, assigned, statement, for_step, arm, arms, more_arms, otherwise, statements, body, main}
+use Rattle.luf_bare.specs.Bare.{as_here, before, chosen_declared, chosen_expression, chosen_optional_expression, chosen_expressions, chosen_operations, chosen_suffix, chosen_suffixes, chosen_arguments, chosen_field, chosen_fields, chosen_statement, chosen_statements, chosen_arm, chosen_arms, chosen_block, chosen_optional_block, chosen_function_body}
+use Rattle.luf_bare.specs.Lone.{item_enclosed, by_kind}
+use Rattle.luf_draft.specs.Draft.{Draft, word, nest, group, pieces, tight, space, line, line_end, before_statement, block_ends, nothing_inside, source_ends, nothing_at_all}
+use Rattle.luf_draft.specs.Form.{Words, guarded, words, parameters, with_dots, path, method, behind_sign, bracketed, declared, kind_of_last, kind_of_one, last_kind, items_of, lone, arguments_as, expression, expressions, more_expressions, broken_expressions, more_broken, operations, suffix, suffixes_of, arguments, field, more_fields, function_body, assigned, statement, for_step, arm, arms, more_arms, otherwise, statements, body, main}
 
 module _ (string_has table_has : Bool → Bool) where
   -- ---- statements as a list of drafts
@@ -46,19 +48,16 @@ module _ (string_has table_has : Bool → Bool) where
   main_is syntax.no_statements = refl
   main_is (syntax.more_statements s rest) = λ i. pieces (before_statement true ∷ statement string_has table_has s ∷ statements_follow rest (source_ends ∷ []) i)
 
-  -- ---- two choices of parentheses
+  -- ---- as the program has its parentheses, and as the draft has them
 
-  module _ (any_string : (had other : Bool) → string_has had ≡ string_has other) (any_table : (had other : Bool) → table_has had ≡ table_has other) where
-    arguments_alike : (k : Items) (had other : Bool) {l m b c : List Draft → List Draft} {more next : List Draft} → l ≡ m → b ≡ c → more ≡ next
-        → arguments_as string_has table_has k had l b more ≡ arguments_as string_has table_has k other m c next
-    arguments_alike no_items had other listed broken same = λ i. tight ∷ word (codes "(") ∷ tight_end ∷ word (codes ")") ∷ same i
-    arguments_alike lone_string had other listed broken same = λ i. lone string_has table_has (any_string had other i) (listed i) (same i)
-    arguments_alike lone_table had other listed broken same = λ i. lone string_has table_has (any_table had other i) (listed i) (same i)
-    arguments_alike with_block had other listed broken same = λ i. tight ∷ word (codes "(") ∷ tight ∷ listed i (tight_end ∷ word (codes ")") ∷ same i)
-    arguments_alike plain_items had other listed broken same =
-        λ i. tight ∷ group (pieces (word (codes "(") ∷ nest (pieces (soft ∷ broken i [])) ∷ soft_end ∷ word (codes ")") ∷ [])) ∷ same i
+  module _ (string_again : (had : Bool) → string_has (string_has had) ≡ string_has had) (table_again : (had : Bool) → table_has (table_has had) ≡ table_has had) where
+    module _ {K : syntax.Shape} (f : ShapeMap K Words) where
+      abbrev encloses : syntax.Expressions K → Bool → Bool
+      encloses = by_kind string_has table_has
 
-    module _ {K : syntax.Shape} (f : ShapeMap K Words) (encloses others : K.Span → Bool → Bool) where
+      abbrev others : syntax.Expressions K → Bool → Bool
+      others = as_here
+
       last_kind_same : (x : syntax.Expression K) → last_kind (chosen_expression f encloses x) ≡ last_kind (chosen_expression f others x)
       last_kind_same (syntax.function span inner) = refl
       last_kind_same (syntax.table span _) = refl
@@ -78,6 +77,33 @@ module _ (string_has table_has : Bool → Bool) where
       items_same syntax.no_expressions = refl
       items_same (syntax.more_expressions x syntax.no_expressions) = kind_same x
       items_same (syntax.more_expressions x (syntax.more_expressions y rest)) = last_same y rest
+
+      -- arguments that are not lone stand in parentheses anyhow
+      last_alike : (x : syntax.Expression K) (had also : Bool) (l b : List Draft → List Draft) (more : List Draft)
+          → arguments_as string_has table_has (last_kind (chosen_expression f others x)) had l b more ≡ arguments_as string_has table_has (last_kind (chosen_expression f others x)) also l b more
+      last_alike (syntax.function span inner) had also l b more = refl
+      last_alike (syntax.table span _) had also l b more = refl
+      last_alike _ had also l b more = refl
+
+      list_alike : (x : syntax.Expression K) (xs : syntax.Expressions K) (had also : Bool) (l b : List Draft → List Draft) (more : List Draft)
+          → arguments_as string_has table_has (kind_of_last (chosen_expression f others x) (chosen_expressions f others xs)) had l b more
+          ≡ arguments_as string_has table_has (kind_of_last (chosen_expression f others x) (chosen_expressions f others xs)) also l b more
+      list_alike x syntax.no_expressions had also l b more = last_alike x had also l b more
+      list_alike x (syntax.more_expressions y rest) had also l b more = list_alike y rest had also l b more
+
+      one_alike : (x : syntax.Expression K) (had : Bool) (l b : List Draft → List Draft) (more : List Draft)
+          → arguments_as string_has table_has (kind_of_one (chosen_expression f others x)) (item_enclosed (string_has had) (table_has had) x) l b more
+          ≡ arguments_as string_has table_has (kind_of_one (chosen_expression f others x)) had l b more
+      one_alike (syntax.string span value) had l b more = λ i. lone string_has table_has (string_again had i) l more
+      one_alike (syntax.table span _) had l b more = λ i. lone string_has table_has (table_again had i) l more
+      one_alike (syntax.function span inner) had l b more = refl
+      one_alike _ had l b more = refl
+
+      arguments_alike : (xs : syntax.Expressions K) (had : Bool) (l b : List Draft → List Draft) (more : List Draft)
+          → arguments_as string_has table_has (items_of (chosen_expressions f others xs)) (encloses xs had) l b more ≡ arguments_as string_has table_has (items_of (chosen_expressions f others xs)) had l b more
+      arguments_alike syntax.no_expressions had l b more = refl
+      arguments_alike (syntax.more_expressions x syntax.no_expressions) had l b more = one_alike x had l b more
+      arguments_alike (syntax.more_expressions x (syntax.more_expressions y rest)) had l b more = list_alike y rest true had l b more
 
       mutual
         expression_same : (x : syntax.Expression K) → expression string_has table_has (chosen_expression f encloses x) ≡ expression string_has table_has (chosen_expression f others x)
@@ -130,8 +156,9 @@ module _ (string_has table_has : Bool → Bool) where
 
         arguments_same : (x : syntax.Arguments K) {m n : List Draft} → m ≡ n → arguments string_has table_has (chosen_arguments f encloses x) m ≡ arguments string_has table_has (chosen_arguments f others x) n
         arguments_same (syntax.arguments span had items) {m} same =
-            ap (λ k. arguments_as string_has table_has k (encloses span had) (λ ds. expressions string_has table_has (chosen_expressions f encloses items) ds) (λ ds. broken_expressions string_has table_has (chosen_expressions f encloses items) ds) m) (items_same items)
-            ∙ arguments_alike (items_of (chosen_expressions f others items)) (encloses span had) (others span had) (λ i ds. expressions_same items {m = ds} refl i) (λ i ds. broken_same items {m = ds} refl i) same
+            ap (λ k. arguments_as string_has table_has k (encloses items had) (λ ds. expressions string_has table_has (chosen_expressions f encloses items) ds) (λ ds. broken_expressions string_has table_has (chosen_expressions f encloses items) ds) m) (items_same items)
+            ∙ arguments_alike items had (λ ds. expressions string_has table_has (chosen_expressions f encloses items) ds) (λ ds. broken_expressions string_has table_has (chosen_expressions f encloses items) ds) m
+            ∙ (λ i. arguments_as string_has table_has (items_of (chosen_expressions f others items)) had (λ ds. expressions_same items {m = ds} refl i) (λ ds. broken_same items {m = ds} refl i) (same i))
 
         field_same : (x : syntax.Field K) {m n : List Draft} → m ≡ n → field string_has table_has (chosen_field f encloses x) m ≡ field string_has table_has (chosen_field f others x) n
         field_same (syntax.item_field value) same = λ i. expression_same value i ∷ same i

@@ -9,9 +9,11 @@ use Rattle.luf_lex.specs.declared.token.Tok.{Tok}
 use Rattle.luf_lex.specs.declared.token.Tok.TheVariants.{Name, Short}
 use Rattle.luf_tree.specs.declared.tree.Chunk.{Chunk}
 use Rattle.luf_tree.specs.SyntaxOf.{syntax_of}
+use Rattle.luf_tree.specs.Syntax as syntax
+use Rattle.luf_bare.specs.Bare.{Bare}
 use Rattle.luf_bare.specs.Dropped.{if_dropped, dropped_block}
 use Rattle.luf_bare.specs.Rank.{rank}
-use Rattle.luf_bare.specs.ReadBack.{SpelledToken, TextWord, token_of, is_added, spelled_at, word_at, own_word, additions, program, IsReadBack}
+use Rattle.luf_bare.specs.ReadBack.{SpelledToken, TextWord, token_of, is_added, spelled_at, word_at, own_word, additions, IsReadBack}
 use Rattle.luf_bare.specs.Significant.{is_among, places_but, significant}
 use Rattle.luf_bare.specs.Texts.{WritesBlock}
 use Rattle.luf_bare.proofs.EachWritten.{each_at}
@@ -103,7 +105,7 @@ module _ (style : QuoteStyle) where
     abbrev source : List SpelledToken
     source = spelled_tokens (λ i. get_or written i []) 0 toks
 
-    word_stays : (chunk : Chunk) (text : List TextWord) → IsReadBack source chunk text → WritesBlock token_of is_added (program source chunk) text → (i : ℕ) → i < length text → Stays (word_at text i)
+    word_stays : {b : syntax.Block (Bare TextWord)} (chunk : Chunk) (text : List TextWord) → IsReadBack source chunk text → WritesBlock token_of is_added b text → (i : ℕ) → i < length text → Stays (word_at text i)
     word_stays chunk text back wrote i within short =
         let own : is_added (word_at text i) ≡ false = each_at (each_block token_of is_added wrote) (own_word (record { token = Name; spelling = [] })) i within short in
         let from = own_at source chunk text back i within own in
@@ -113,6 +115,6 @@ module _ (style : QuoteStyle) where
         let spelling : get_or written from.0 [] ≡ (word_at text i).spelled.spelling = sym (all_bytes toks written is from.0) ∙ ap (λ (w : SpelledToken). w.spelling) from.1 in
         requoted_again style requoted.0 (word_at text i).spelled.spelling (subst (λ (w : List ℕ). IsRequoted requoted.0 (quote_in style requoted.0) w) spelling requoted.1)
 
-    pub written_again : (chunk : Chunk) (text : List TextWord) → IsReadBack source chunk text → WritesBlock token_of is_added (program source chunk) text
+    pub written_again : {b : syntax.Block (Bare TextWord)} (chunk : Chunk) (text : List TextWord) → IsReadBack source chunk text → WritesBlock token_of is_added b text
         → AreWritten (quote_in style) (map token_of text) (spellings text) (spellings text)
     written_again chunk text back wrote = all_stay text (word_stays chunk text back wrote)

@@ -1,5 +1,5 @@
 -- What is formatted twice is formatted once, where its text is read as what it was written of. Rules of our own.
-use Rattle.std.specs.Prelude.{◌≡◌, ℕ, Bool, true, false, List, [], ◌++◌}
+use Rattle.std.specs.Prelude.{◌≡◌, ℕ, true, false, List, [], ◌++◌}
 use Rattle.luf_doc.specs.Document.{Document}
 use Rattle.luf_doc.specs.Layout.{layout}
 use Rattle.luf_doc.specs.Layout as layout
@@ -25,10 +25,6 @@ use Rattle.luf_twice.specs.Ready.{HasWords}
 -- the draft of a chunk whose tokens are written so
 abbrev pub draft_of : Choices → List (List ℕ) → Chunk → Draft
 draft_of choices written chunk = main choices.string_has choices.table_has (written_program written chunk)
-
--- whether a lone argument stands in parentheses is settled: it does not depend on whether it does so in the source
-abbrev pub IsSettled : Choices → Type 0
-IsSettled choices = ((had other : Bool) → choices.string_has had ≡ choices.string_has other) × ((had other : Bool) → choices.table_has had ≡ choices.table_has other)
 
 -- The text of a document is cut where its layout has its pieces, it has a tree, whose draft is the draft again; each gap
 -- stands before one token that is kept; and it has the same `#` line.

@@ -1,7 +1,6 @@
 // Laws of the document of a text.
-ghost use Rattle.std.specs.Prelude.{◌≡◌, ℕ, List};
+ghost use Rattle.std.specs.Prelude.{ℕ, List};
 ghost use Rattle.luf_conf.specs.declared.settings.Options.{Options};
-ghost use Rattle.luf_quote.specs.declared.calls.CallStyle.TheVariants.{Input};
 ghost use Rattle.luf_style.specs.Styled.{IsFormatted, choices_of};
 ghost use Rattle.luf_twice.specs.Again.{FilledAgain, GapsAgain};
 ghost use Rattle.luf_twice.specs.Ready.{DocumentIsReady};
@@ -27,8 +26,7 @@ pub fn twice_is_once()
     ensures { TwiceIsOnce }
 {}
 
-/// A formatted text is the formatted text of itself, under the same options, unless lone arguments keep the parentheses that
-/// they have.
+/// A formatted text is the formatted text of itself, under the same options.
 pub fn formatted_once()
-    ensures { (o : Options) (source text : List ℕ) → (o.calls ≡ Input → ⊥) → IsFormatted (choices_of o) source text → IsFormatted (choices_of o) text text }
+    ensures { (o : Options) (source text : List ℕ) → IsFormatted (choices_of o) source text → IsFormatted (choices_of o) text text }
 {}

@@ -40,7 +40,7 @@ keeps_source o source text a f fits =
     let levels : depth_of f.chunk ≤ level_limit = subst (λ (x : Chunk). depth_of x ≤ level_limit) tree a.is.levels in
     let is : IsSource source f.pieces f.chunk = record { cut = f.cut; tree = f.tree; levels = levels } in
     let same : IsKept o source text = is_kept o source text f levels (one_scope_fault source f.pieces a.pieces f.chunk a.chunk is a.is ∙ a.scopes) in
-    record { accepted = record { within = fits; pieces = same.others; chunk = same.other; is = same.read; scopes = same.no_fault }; same = same; once = λ other. formatted_once o source text other f }
+    record { accepted = record { within = fits; pieces = same.others; chunk = same.other; is = same.read; scopes = same.no_fault }; same = same; once = formatted_once o source text f }
 
 module _ (o : Options) (source : List ℕ) where
   -- under options a source has one formatted text at most

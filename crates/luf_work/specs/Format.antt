@@ -1,7 +1,6 @@
 -- What `format` writes, accepts and refuses, under options. Our own rules.
-use Rattle.std.specs.Prelude.{◌≢◌, ℕ, ◌<◌, ◌≤◌, List, length}
+use Rattle.std.specs.Prelude.{ℕ, ◌<◌, ◌≤◌, List, length}
 use Rattle.luf_conf.specs.declared.settings.Options.{Options}
-use Rattle.luf_quote.specs.declared.calls.CallStyle.TheVariants.{Input}
 use Rattle.luf_style.specs.Styled.{IsFormatted, choices_of}
 use Rattle.luf_kept.specs.Kept.{IsKept}
 use Rattle.luf_work.specs.Limits.{text_limit}
@@ -29,8 +28,8 @@ IsFormatRefusal o source ResultTooLarge = IsAccepted source × HasLargeLayout o 
 IsFormatRefusal o source refusal = IsSourceRefusal source refusal
 
 -- What is written of a source keeps it: the text is accepted by every job, and it is the same program. And it is its own
--- formatted text, unless lone arguments keep the parentheses that they have.
+-- formatted text.
 pub record KeepsSource (o : Options) (source text : List ℕ) : Type 0 where
   pub accepted : IsAccepted text
   pub same : IsKept o source text
-  pub once : o.calls ≢ Input → IsFormatted (choices_of o) text text
+  pub once : IsFormatted (choices_of o) text text
