@@ -4,7 +4,7 @@ use crate::formats::{USUAL, each};
 use std::test::Fail;
 
 /// A comment before each token, and one at the end.
-const BETWEEN: [(&str, &str); 17] = [
+pub(crate) const BETWEEN: [(&str, &str); 17] = [
     (
         "--[[a]]local--[[b]]a--[[c]],--[[d]]b--[[e]]<--[[f]]const--[[g]]>--[[h]]=--[[i]]1--[[j]],--[[k]]2--[[l]]",
         "--[[a]] local --[[b]] a --[[c]] , --[[d]] b --[[e]] < --[[f]] const --[[g]] > --[[h]] = --[[i]] 1 --[[j]] , --[[k]] 2 --[[l]]\n",
@@ -76,7 +76,7 @@ const BETWEEN: [(&str, &str); 17] = [
 ];
 
 /// A comment behind each token, which ends its line.
-const BEHIND: [(&str, &str); 9] = [
+pub(crate) const BEHIND: [(&str, &str); 9] = [
     (
         "do--a\nf--b\n(--c\n)--d\nend--e\n",
         "do --a\n\tf --b\n\t( --c\n\t) --d\nend --e\n",
@@ -116,7 +116,7 @@ const BEHIND: [(&str, &str); 9] = [
 ];
 
 /// Comments at borders of blocks, round what is dropped, and in lists.
-const REMARKS: [(&str, &str); 21] = [
+pub(crate) const REMARKS: [(&str, &str); 21] = [
     ("x=1 --[[a]] ; --b\n\n;y=2", "x = 1 --[[a]] --b\n\ny = 2\n"),
     ("x=1;--a\n--b\n;--c\ny=2", "x = 1 --a\n--b\n--c\ny = 2\n"),
     ("x=1 --c", "x = 1 --c\n"),

@@ -10,7 +10,7 @@ use std::process::Abort;
 use std::test::Fail;
 
 /// Each statement, with its separators and its guard.
-const STATEMENTS: [(&str, &str); 18] = [
+pub(crate) const STATEMENTS: [(&str, &str); 18] = [
     ("", ""),
     ("local x=1;(f)(x)", "local x = 1\n;(f)(x)\n"),
     (
@@ -71,7 +71,7 @@ const STATEMENTS: [(&str, &str); 18] = [
 ];
 
 /// Operators, tables, and functions as arguments.
-const EXPRESSIONS: [(&str, &str); 12] = [
+pub(crate) const EXPRESSIONS: [(&str, &str); 12] = [
     ("return 1 ..2", "return 1 .. 2\n"),
     (
         "x=- -x y=not not x z=-not-#y",
@@ -120,7 +120,7 @@ const EXPRESSIONS: [(&str, &str); 12] = [
 ];
 
 /// Empty lines, line ends and first lines.
-const LINES: [(&str, &str); 11] = [
+pub(crate) const LINES: [(&str, &str); 11] = [
     ("\n\nx=1\n\n\n\ny=2\nz=3\n\n", "x = 1\n\ny = 2\nz = 3\n"),
     (
         "do\n\n\nx=1\n\n\n\ny=2\n\n\nend",
@@ -199,7 +199,7 @@ fn with_quotes(quotes: QuoteStyle) -> Options
 }
 
 /// Quotes of each kind inside each kind, with and without a backslash.
-const QUOTES: &str =
+pub(crate) const QUOTES: &str =
     "x='' y='\"' z=\"'\" u='\\'\"' v=\"''\\\"\" a='a' b='\"\"\\'' c=\"\\\"\\'\" d='\\\\\"' e='it\\'s \"q\"' f='\\\\' g=[[']]";
 
 /// Their text in each style.
@@ -238,7 +238,7 @@ fn with_calls(calls: CallStyle) -> Options
 }
 
 /// Calls of each kind.
-const CALLS: &str =
+pub(crate) const CALLS: &str =
     "f({1}):g(\"x\") f\"x\" f{} f[[x]] a.b:c\"x\"{}() f((\"x\")) f(\"x\",{}) f(\"x\"..y) f(({}))";
 
 /// Their text in each style, and comments at parentheses that are added or dropped.
@@ -299,7 +299,7 @@ fn calls(rt: HostRuntime) -> Result<(), Fail> {
 }
 
 /// With lines of 20 columns.
-const NARROW: [(&str, &str); 17] = [
+pub(crate) const NARROW: [(&str, &str); 17] = [
     (
         "x={--[[c]] aaaa,bbbb,cccc}",
         "x = { --[[c]]\n\taaaa,\n\tbbbb,\n\tcccc,\n}\n",

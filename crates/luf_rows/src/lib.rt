@@ -18,6 +18,8 @@ mod jobs;
 #[cfg(test)]
 mod lexis;
 #[cfg(test)]
+mod memory;
+#[cfg(test)]
 mod minified;
 #[cfg(test)]
 mod numerals;
@@ -33,3 +35,5 @@ mod sources;
 mod spaces;
 #[cfg(test)]
 mod strings;
+#[cfg(test)]
+mod twice;

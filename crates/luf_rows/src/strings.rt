@@ -13,7 +13,7 @@ use std::process::Abort;
 use std::test::Fail;
 
 /// The spelling of the string that a source is.
-fn string_in<'a>(rt: &impl Abort, cut: &Cut, src: &'a [u8]) -> &'a [u8]
+pub(crate) fn string_in<'a>(rt: &impl Abort, cut: &Cut, src: &'a [u8]) -> &'a [u8]
     requires { IsCut src.now cut.now }
     ensures { IsStringSpelling result.now }
 {
