@@ -6,7 +6,7 @@ use Rattle.luf_doc.specs.declared.size.Size.{Size}
 use Rattle.luf_doc.specs.declared.table.Node.{Node}
 use Rattle.luf_doc.specs.Document.{Document, Documents, nothing, also}
 use Rattle.luf_doc.specs.Table.{node_count, all_count, places, inside, row_of, rows_from, all_rows, kind_of}
-use Rattle.luf_doc.specs.inner.Sizes.{size_of, own_size, then}
+use Rattle.luf_doc.specs.Sizes.{size_of, own_size, then}
 use Rattle.luf_doc.proofs.SizeLoop.{Counts, counts_own, counts_more, counts_whole}
 use Rattle.luf_doc.proofs.TableLaws.{rows_count, rows_inside, count_inside}
 

@@ -8,7 +8,7 @@ use Rattle.luf_doc.specs.declared.size.Size.{Size}
 use Rattle.luf_doc.specs.Document.{Document, Documents, text, between, trail, nest, group, sequence, nothing, also}
 use Rattle.luf_doc.specs.Flat.{counted, counted_notes, flat_gap, flat, all_flat, is_note_ended, is_ended, any_ended, is_hard, is_forcing, forces, any_forces}
 use Rattle.luf_doc.specs.Table.{inside}
-use Rattle.luf_doc.specs.inner.Sizes.{size_of, size_of_note, own_size, then}
+use Rattle.luf_doc.specs.Sizes.{size_of, size_of_note, own_size, then}
 use Rattle.luf_doc.proofs.FlatLaws.{counted_after, flat_after, one_more, one_note_more}
 
 -- `size` is that of what has been counted of `d`, where the documents `left` are still to be counted

@@ -13,6 +13,7 @@ pub use doc::{Chance, Doc, Gap, Remark};
 pub use laws::{broken_elsewhere, flat_inside, flat_where_it_fits, layout_joined};
 pub use luf_memory::Memory;
 pub use page::Page;
+pub use size::Size;
 pub use std::sync::ledger::Ledger;
 pub use steps::Steps;
 pub use table::{DocTable, Node, NodeKind};

@@ -2,22 +2,24 @@
 ghost use Rattle.std.specs.Prelude.{◌≡◌, ◌≤◌, ◌<◌, ◌^◌, ℕ, length, min, position};
 ghost use Rattle.luf_doc.specs.Document.{text, between, document_of};
 ghost use Rattle.luf_doc.specs.Flat.{is_line_end};
-ghost use Rattle.luf_doc.specs.inner.Sizes.{own_size, size_of, size_of_chance, size_of_note, then};
+ghost use Rattle.luf_doc.specs.Sizes.{own_size, size_of, size_of_chance, size_of_note, then};
 
 use crate::{Chance, Doc, Gap, Remark};
 
-/// The flat bytes up to the first line end, or the greatest number where they are more; whether there is a line end;
-/// whether something forces.
+/// The size of a document.
 #[derive(Clone, Copy, Debug, PartialEq, Eq)]
-pub(crate) struct Size {
+pub struct Size {
+    /// The bytes on one line, up to the first line end inside, or `u32::MAX` where they are more.
     pub flat: u32,
+    /// Whether a line end stands in a text or a note inside.
     pub ended: bool,
+    /// Whether a Hard gap or a forcing note is inside.
     pub forced: bool,
 }
 
 impl Size {
     /// The size of nothing.
-    const NONE: Size = Size {
+    pub const NONE: Size = Size {
         flat: 0,
         ended: false,
         forced: false,
@@ -31,7 +33,7 @@ impl Size {
     };
 
     /// The size of a text or a gap, and none for what holds others.
-    pub fn of_own(doc: &Doc) -> Size
+    pub(crate) fn of_own(doc: &Doc) -> Size
         ensures { result ≡ own_size (document_of doc.now) }
     {
         match doc {
@@ -41,7 +43,8 @@ impl Size {
         }
     }
 
-    fn of_text(bytes: &[u8]) -> Size
+    /// The size of a text.
+    pub fn of_text(bytes: &[u8]) -> Size
         ensures { result ≡ size_of (text bytes.now) }
     {
         let end = first_line_end(bytes);
@@ -53,7 +56,8 @@ impl Size {
         }
     }
 
-    fn of_gap(gap: &Gap) -> Size
+    /// The size of a gap.
+    pub fn of_gap(gap: &Gap) -> Size
         ensures { result ≡ size_of (between gap.now) }
     {
         if gap.notes.is_empty() {

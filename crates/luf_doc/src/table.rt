@@ -3,7 +3,7 @@ ghost use Rattle.std.specs.Prelude.{◌≡◌, ℕ, ◌+◌, ◌≤◌, ◌<◌,
 ghost use Rattle.luf_doc.specs.Document.{document_of};
 ghost use Rattle.luf_doc.specs.Table.{node_count, inside, kind_of, rows_of, rows_from};
 ghost use Rattle.luf_doc.specs.inner.Above.{above};
-ghost use Rattle.luf_doc.specs.inner.Sizes.{size_of};
+ghost use Rattle.luf_doc.specs.Sizes.{size_of};
 
 use crate::size::Size;
 use crate::{Doc, Gap, Memory, Steps};

@@ -2,7 +2,7 @@
 use Rattle.std.proofs.Common.{◌≡◌, ◌+◌, ◌∙◌, ◌∷◌, ap, sym, subst, arith, length, drop, get_or}
 use Rattle.std.proofs.lemmas.List.{drop_more}
 use Rattle.luf_doc.specs.declared.size.Size.{Size}
-use Rattle.luf_doc.specs.inner.Sizes.{size_of_note, then}
+use Rattle.luf_doc.specs.Sizes.{size_of_note, then}
 use Rattle.luf_doc.proofs.SizeLoop.{CountsNotes, counts_note_more, blank}
 use Rattle.luf_doc.proofs.size.Size.of_gap.Goals as goal
 

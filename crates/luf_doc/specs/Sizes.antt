@@ -1,4 +1,4 @@
--- Sizes as they are counted from the left.
+-- The size of a document: what its row says of it, but for its kind and the nodes inside. Sizes are counted from the left.
 use Rattle.std.specs.Prelude.{◌+◌, min, true, false, cond, ◌||◌}
 use Rattle.luf_doc.specs.declared.doc.Remark.{Remark}
 use Rattle.luf_doc.specs.declared.size.Size.{Size}
