@@ -27,3 +27,4 @@ pub mod Told
 pub mod Meant
 pub mod Named
 pub mod RoleFound
+pub mod NoAttribute

@@ -6,3 +6,4 @@ pub mod Sweep
 pub mod Laid
 pub mod Starts
 pub mod Buckets
+pub mod Attributes

@@ -1,5 +1,6 @@
 // The faults of names, each word by itself.
 ghost use Rattle.std.specs.Prelude.{◌≡◌, ℕ, ◌≤◌, Bool, Option, Some, List, [], ◌∷◌, ◌++◌, IfOk, OnOk, map, slice_get, false};
+ghost use Rattle.std.specs.List.{list_any};
 ghost use Rattle.std.specs.Option.{option_to_list, option_map_or, option_and_then};
 ghost use Rattle.luf_lex.specs.Cut.{IsCut};
 ghost use Rattle.luf_scope.specs.Fault as fault;
@@ -7,6 +8,7 @@ ghost use Rattle.luf_scope.specs.Links.{spelling_in};
 ghost use Rattle.luf_scope.specs.Local.{Spelling, LocalVariable, FunctionAt, locals_of, binder_of, function_by};
 ghost use Rattle.luf_scope.specs.Order.{place};
 ghost use Rattle.luf_scope.specs.declared.occurrence.Occurrence.{Occurrence};
+ghost use Rattle.luf_scope.specs.inner.Attributes.{has_attribute};
 ghost use Rattle.luf_scope.specs.inner.Laid as laid;
 ghost use Rattle.luf_scope.specs.inner.Laid.{AreLaid, first_at, Tells, varargs_among, AreEnds, second_among};
 ghost use Rattle.luf_scope.specs.inner.Scopes.{meaning_of};
@@ -19,8 +21,29 @@ use luf_lex::Cut;
 use std::alloc::Global;
 use std::collections::BTreeSet;
 
-// The first fault of a name.
+// The first fault of a name. Nothing is constant where no local variable has an attribute.
 pub fn name_fault(
+    alloc: Global,
+    src: &[u8],
+    cut: &Cut,
+    os: &[Occurrence],
+    meanings: &[Option<u32>],
+    binders: &[Binder],
+) -> Result<Option<ScopeBad>, Memory>
+    requires cut { IsCut src.now cut.now }
+    requires laid { AreLaid os.now }
+    requires meanings { let spelled = spelling_in src.now cut.now in meanings.now ≡ map (meaning_of spelled (locals_of spelled os.now)) os.now }
+    requires binders { binders.now ≡ map binder_of (locals_of (spelling_in src.now cut.now) os.now) }
+    ensures { IfOk result (λ found. found ≡ fault.first_fault (fault.name_faults (spelling_in src.now cut.now) os.now)) }
+{
+    if any_attribute(os) {
+        return any_name_fault(alloc, src, cut, os, meanings, binders);
+    }
+    plain_name_fault(alloc, os)
+}
+
+// The first fault of a name, each word by itself.
+fn any_name_fault(
     alloc: Global,
     src: &[u8],
     cut: &Cut,
@@ -39,6 +62,34 @@ pub fn name_fault(
     let constant = first_constant(os, meanings, binders);
     let varargs = first_varargs(alloc, os)?;
     Ok(first_of(first_of(first_of(unknown, second), constant), varargs))
+}
+
+// The first fault of a name, where no local variable has an attribute.
+pub fn plain_name_fault(alloc: Global, os: &[Occurrence]) -> Result<Option<ScopeBad>, Memory>
+    requires laid { AreLaid os.now }
+    requires plain { list_any has_attribute os.now ≡ false }
+    ensures { (spelled : Spelling) → IfOk result (λ found. found ≡ fault.first_fault (fault.name_faults spelled os.now)) }
+{
+    first_varargs(alloc, os)
+}
+
+// Whether a local variable has an attribute.
+pub fn any_attribute(os: &[Occurrence]) -> bool
+    ensures { result ≡ list_any has_attribute os.now }
+{
+    os.iter().any(|o| has_attribute(*o))
+}
+
+fn has_attribute(o: Occurrence) -> bool
+    ensures { result ≡ has_attribute o }
+{
+    matches!(
+        o,
+        Occurrence::Local {
+            attribute: Some(_),
+            ..
+        }
+    )
 }
 
 // The first attribute that is neither `const` nor `close`.

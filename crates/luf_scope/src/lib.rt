@@ -29,4 +29,4 @@ pub use luf_memory::Memory;
 pub use marks::Marks;
 pub use occurrence::Occurrence;
 pub use reading::occurrences;
-pub use resolving::{resolve, resolve_read};
+pub use resolving::{check_names, resolve, resolve_read};

@@ -10,7 +10,7 @@ ghost use Rattle.luf_scope.specs.Order.{AreOrdered};
 ghost use Rattle.luf_scope.specs.inner.Buckets.{number_in};
 ghost use Rattle.luf_scope.specs.inner.Scopes.{meaning_of, name_number, scopes_from};
 
-use crate::checks::name_fault;
+use crate::checks::{any_attribute, name_fault, plain_name_fault};
 use crate::meanings::meanings;
 use crate::names::Names;
 use crate::roles::roles_of;
@@ -54,6 +54,37 @@ pub fn resolve_read(
     ensures bad { IfErr result (λ e. IfBad e (λ b. first_fault (name_faults (spelling_in src.now cut.now) (occurrences_of c.now)) ≡ Some b)) }
 {
     links_of(alloc, src, cut, os)
+}
+
+/// Whether the names of a chunk have a fault, where what the chunk says is read already. Of a chunk without attributes no
+/// name is looked up.
+///
+/// # Errors
+///
+/// As `resolve`.
+pub fn check_names(
+    alloc: Global,
+    src: &[u8],
+    cut: &Cut,
+    c: &Chunk,
+    os: &[Occurrence],
+) -> Result<(), ScopeErr>
+    requires cut { IsCut src.now cut.now }
+    requires tree { IsChunk (toks_of cut.now) c.now }
+    requires read { os.now ≡ occurrences_of c.now }
+    ensures accepted { IfOk result (λ _. first_fault (name_faults (spelling_in src.now cut.now) (occurrences_of c.now)) ≡ None) }
+    ensures bad { IfErr result (λ e. IfBad e (λ b. first_fault (name_faults (spelling_in src.now cut.now) (occurrences_of c.now)) ≡ Some b)) }
+{
+    if any_attribute(os) {
+        return match resolve_read(alloc, src, cut, c, os) {
+            Ok(_) => Ok(()),
+            Err(e) => Err(e),
+        };
+    }
+    match plain_name_fault(alloc, os)? {
+        Some(bad) => Err(ScopeErr::Bad(bad)),
+        None => Ok(()),
+    }
 }
 
 fn links_of(alloc: Global, src: &[u8], cut: &Cut, os: &[Occurrence]) -> Result<Links, ScopeErr>
