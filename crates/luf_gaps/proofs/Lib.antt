@@ -5,3 +5,4 @@ pub mod MarkLaws
 pub mod MaskReads
 pub mod WithinLaws
 pub mod ReadingLaws
+pub mod LeftLaws

@@ -53,6 +53,11 @@ and_before source pieces n gap = record {
 abbrev pub empty_gap : GapNotes
 empty_gap = record { notes = []; blank = false }
 
+-- the first of these; an empty one where there is none
+abbrev pub next_gap : List GapNotes → GapNotes
+next_gap [] = empty_gap
+next_gap (gap ∷ gaps) = gap
+
 -- the last comment of a source ends its line, where no significant token follows
 abbrev pub last_ends : List Remark → List Remark
 last_ends [] = []

@@ -4,6 +4,7 @@
 mod dropped;
 mod mask;
 mod notes;
+mod reader;
 mod reading;
 mod remarks;
 #[cfg(test)]
@@ -11,4 +12,5 @@ mod tests;
 
 pub use luf_memory::Memory;
 pub use notes::GapNotes;
+pub use reader::GapReader;
 pub use reading::gaps;
