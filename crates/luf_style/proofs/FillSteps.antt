@@ -15,9 +15,10 @@ use Rattle.luf_draft.specs.declared.mark.GapKind.{GapKind}
 use Rattle.luf_draft.specs.declared.mark.Mark.{Mark}
 use Rattle.luf_draft.specs.declared.mark.Mark.TheVariants as mark
 use Rattle.luf_draft.specs.declared.mark.Part.{Part}
+use Rattle.luf_gaps.specs.Gaps.{next_gap}
 use Rattle.luf_gaps.specs.declared.notes.GapNotes.{GapNotes}
 use Rattle.luf_style.specs.Filled.{IsFilled, IsGap}
-use Rattle.luf_style.specs.inner.Running.{Runs, Open, Steps, Goes, open_of, has_text, text_of, first_flat, closed, last_of, next_gap}
+use Rattle.luf_style.specs.inner.Running.{Runs, Open, Steps, Goes, open_of, has_text, text_of, first_flat, closed, last_of}
 use Rattle.luf_style.specs.inner.Running as running
 use Rattle.luf_style.specs.declared.filling.Filling.{Filling}
 use Rattle.luf_style.specs.declared.filling.Frame.{Frame}
@@ -36,7 +37,7 @@ last_doc docs rest d is = sym (ap (λ (ds : List Doc). last_of (map document_of 
 one_more : (docs more : List Doc) (d : Doc) (x : Document) → more ≡ docs ++ d ∷ [] → document_of d ≡ x → map document_of more ≡ map document_of docs ++ x ∷ []
 one_more docs more d x is d_is = ap (map document_of) is ∙ map-append document_of docs (d ∷ []) ∙ ap (λ y. map document_of docs ++ y ∷ []) d_is
 
-text_shown : (written : List (List ℕ)) (m : Mark) → has_text m ≡ true → shown written m ≡ flat_word (text_of (shown written m))
+pub text_shown : (written : List (List ℕ)) (m : Mark) → has_text m ≡ true → shown written m ≡ flat_word (text_of (shown written m))
 text_shown written (mark.Token n) h = refl
 text_shown written (mark.Word w) h = refl
 text_shown written (mark.Sign s) h = refl

@@ -16,7 +16,16 @@ pub mod FillSteps
 pub mod BlankLaws
 pub mod ChanceLaws
 pub mod TextLaws
+pub mod TextsLaws
 pub mod WrittenLaws
 pub mod EnoughGaps
 pub mod NodeLaws
 pub mod StyleLaws
+pub mod TapeLaws
+pub mod MeasuredLaws
+pub mod StraightLaws
+pub mod StraightWritten
+pub mod StraightSteps
+pub mod MeasureSteps
+pub mod GapSteps
+pub mod GapListLaws

@@ -114,6 +114,13 @@ short_is quote t s w is h = subst (λ u. IsWritten quote u s w) (sym is) (one.re
 pub other_is : (quote : List ℕ → ℕ) (t : Tok) (s w : List ℕ) → (t ≡ Short → ⊥) → w ≡ s → IsWritten quote t s w
 other_is quote t s w other is = subst (λ (v : List ℕ). IsWritten quote t s v) (sym is) (one.kept other)
 
+-- a token that is found and is no short string
+pub kept_is : (quote : List ℕ → ℕ) (toks : List Tok) (spellings : List (List ℕ)) (n : ℕ) (t u : Tok) (s w : List ℕ) → Some t ≡ slice_get toks n → Some w ≡ slice_get spellings n → (t ≡ Short → ⊥)
+    → slice_get toks n ≡ Some u → slice_get spellings n ≡ Some s → IsWritten quote u s w
+kept_is quote toks spellings n t u s w tok spelling other tok_is spelling_is =
+    let same : t ≡ u = same_Some t u (tok ∙ tok_is) in
+    other_is quote u s w (λ is. other (same ∙ is)) (same_Some w s (spelling ∙ spelling_is))
+
 pub token_spelled : (source : List ℕ) (pieces : List Piece) → IsCut source pieces → (n : ℕ) (t : Tok) (s : List ℕ) → Some t ≡ slice_get (toks_of pieces) n → Some s ≡ slice_get (spellings_of source pieces) n → Spells (Token t) s
 token_spelled source pieces cut n t s tok spelling =
     let here = spelled_at source pieces cut n s (sym spelling) in

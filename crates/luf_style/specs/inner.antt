@@ -8,3 +8,9 @@ pub mod Parted
 pub mod Running
 pub mod Shows
 pub mod Written
+pub mod Texts
+pub mod Tape
+pub mod Openings
+pub mod Measured
+pub mod Straight
+pub mod GapList

@@ -2,7 +2,7 @@
 ghost use Rattle.std.specs.Prelude.{◌≡◌, false, cond, nat_lt, IfOk};
 ghost use Rattle.luf_draft.specs.Flat.{gap_of_kind};
 ghost use Rattle.luf_style.specs.Filled.{bordered, unspaced, start_unspaced, end_unspaced, without_blank};
-ghost use Rattle.luf_style.specs.inner.Blanks.{cleared, first_break, is_outside};
+ghost use Rattle.luf_style.specs.inner.Blanks.{cleared, first_break, is_later, is_outside};
 
 use luf_doc::Remark;
 use luf_draft::GapKind;
@@ -15,6 +15,13 @@ use std::alloc::Global;
 pub(crate) fn bordered(alloc: Global, kind: GapKind, gap: GapNotes) -> Result<GapNotes, Memory>
     ensures { IfOk result (λ told. told ≡ bordered (gap_of_kind kind).border gap) }
 {
+    if gap.notes.is_empty() {
+        let blank = told_alone(kind, gap.blank);
+        return Ok(GapNotes {
+            notes: gap.notes,
+            blank,
+        });
+    }
     match kind {
         GapKind::LaterStatement => Ok(gap),
         GapKind::FirstStatement => start_unspaced(alloc, gap),
@@ -30,6 +37,27 @@ pub(crate) fn bordered(alloc: Global, kind: GapKind, gap: GapNotes) -> Result<Ga
         | GapKind::TightEnd
         | GapKind::SoftEnd
         | GapKind::LineEnd => unspaced(alloc, gap),
+    }
+}
+
+/// Whether the empty line of a gap without notes is told: only before a later statement of a block.
+fn told_alone(kind: GapKind, blank: bool) -> bool
+    ensures { result ≡ cond (is_later (gap_of_kind kind).border) blank false }
+{
+    match kind {
+        GapKind::LaterStatement => blank,
+        GapKind::FirstStatement
+        | GapKind::BlockEnd
+        | GapKind::SourceEnd
+        | GapKind::EmptyBlock
+        | GapKind::EmptySource
+        | GapKind::Tight
+        | GapKind::Space
+        | GapKind::Soft
+        | GapKind::Line
+        | GapKind::TightEnd
+        | GapKind::SoftEnd
+        | GapKind::LineEnd => false,
     }
 }
 

@@ -5,12 +5,14 @@ ghost use Rattle.luf_draft.specs.Draft.{Draft};
 ghost use Rattle.luf_draft.specs.declared.mark.Mark.TheVariants as variants;
 ghost use Rattle.luf_draft.specs.Flat.{Flat, flat, gap_of_kind, shown};
 ghost use Rattle.luf_draft.specs.Openings.{openings};
+ghost use Rattle.luf_gaps.specs.Gaps.{next_gap};
 ghost use Rattle.luf_style.specs.Filled.{IsFilled, IsGap};
-ghost use Rattle.luf_style.specs.inner.Running.{Steps, closed, first_flat, has_text, last_of, next_gap, text_of};
+ghost use Rattle.luf_style.specs.inner.Running.{Steps, closed, first_flat, has_text, last_of, text_of};
 ghost use Rattle.luf_style.specs.inner.Written.{AreTexts};
 
 use crate::blanks::bordered;
 use crate::chance::{chance_between, is_deeper};
+use crate::texts::Texts;
 use crate::word::text_of;
 use luf_doc::{Doc, Gap};
 use luf_draft::{GapKind, Mark, Part};
@@ -48,7 +50,7 @@ struct Filling {
 /// marks. Time is linear in the marks and the bytes, as between a tight gap of a draft and its next text parts only begin.
 pub(crate) fn fill(
     alloc: Global,
-    written: &[Bytes],
+    written: &Texts,
     marks: &[Mark],
     gaps: Vec<GapNotes>,
 ) -> Result<Doc, Memory>
@@ -63,7 +65,7 @@ pub(crate) fn fill(
 }
 
 /// The marks behind mark `n`.
-fn behind(marks: &[Mark], n: usize) -> &[Mark]
+pub(crate) fn behind(marks: &[Mark], n: usize) -> &[Mark]
     requires { n < length marks.now }
     ensures { result.now ≡ drop (n + 1) marks.now }
 {
@@ -136,7 +138,7 @@ impl Filling {
     fn step(
         &mut self,
         alloc: Global,
-        written: &[Bytes],
+        written: &Texts,
         mark: Mark,
         rest: &[Mark],
     ) -> Result<(), Memory>
@@ -153,7 +155,7 @@ impl Filling {
     }
 
     /// Adds a text, and keeps its mark.
-    fn add_text(&mut self, alloc: Global, written: &[Bytes], mark: Mark) -> Result<(), Memory>
+    fn add_text(&mut self, alloc: Global, written: &Texts, mark: Mark) -> Result<(), Memory>
         requires { has_text mark ≡ true }
         ensures { OnOk result ((rest : List Flat) → Steps written.now mark rest self.old self.new) }
     {
@@ -167,7 +169,7 @@ impl Filling {
     fn add_gap(
         &mut self,
         alloc: Global,
-        written: &[Bytes],
+        written: &Texts,
         kind: GapKind,
         rest: &[Mark],
     ) -> Result<(), Memory>
@@ -232,9 +234,9 @@ impl Filling {
 }
 
 /// A gap of this kind with its notes.
-fn filled_gap(
+pub(crate) fn filled_gap(
     alloc: Global,
-    written: &[Bytes],
+    written: &Texts,
     last: Mark,
     kind: GapKind,
     gap: GapNotes,

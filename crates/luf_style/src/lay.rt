@@ -67,10 +67,10 @@ struct Walk<'a> {
 }
 
 /// The group and the level in which a node stands.
-#[derive(Clone, Copy)]
-struct Setting {
-    mode: Mode,
-    level: u32,
+#[derive(Clone, Copy, Debug)]
+pub(crate) struct Setting {
+    pub mode: Mode,
+    pub level: u32,
 }
 
 impl Walk<'_> {
@@ -150,7 +150,7 @@ impl Walk<'_> {
 }
 
 /// Writes a `,` in a broken group.
-fn write_trail(mode: Mode, sheet: &mut Sheet) -> Result<(), Memory>
+pub(crate) fn write_trail(mode: Mode, sheet: &mut Sheet) -> Result<(), Memory>
     ensures shown { OnOk result ((page : Page) (done : List Piece) → Shows page sheet.old done → Shows page sheet.new (cond (is_broken (mode_as mode)) (word comma ∷ done) done)) }
     ensures before { sheet.new.bytes.before ≡ sheet.old.bytes.before }
 {

@@ -48,7 +48,8 @@ fn lead_before(node: &Node, behind: u32) -> u32
     }
 }
 
-fn lead_before_gap(gap: &Gap, behind: u32) -> u32
+/// The lead before a gap, by the lead behind it.
+pub(crate) fn lead_before_gap(gap: &Gap, behind: u32) -> u32
     ensures { (n : ℕ) → behind ≡ min n u32.MAX → result ≡ min (lead_gap gap.now.chance gap.now.notes n) u32.MAX }
 {
     if !gap.notes.is_empty() {

@@ -19,7 +19,7 @@ use luf_tree::Chunk;
 use std::alloc::Global;
 
 /// The most marks of a document: its nodes are numbered by 32 bits.
-const MOST_MARKS: usize = 4294967295;
+pub(crate) const MOST_MARKS: usize = 4294967295;
 
 /// The document of a source, as the options want it, of fewer than 2^32 nodes. Linear in the source.
 ///
@@ -38,5 +38,5 @@ pub fn style(alloc: Global, src: &[u8], cut: &Cut, c: &Chunk, o: &Options) -> Re
         return Err(Memory);
     }
     let left = gaps(alloc, src, cut, c)?;
-    fill(alloc, written.as_slice(), found.as_slice(), left)
+    fill(alloc, &written, found.as_slice(), left)
 }

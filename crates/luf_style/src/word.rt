@@ -1,33 +1,24 @@
 // The texts of marks.
-ghost use Rattle.std.specs.Prelude.{◌≡◌, ◌↔◌, List, [], map, get_or, false, IsTrue};
+ghost use Rattle.std.specs.Prelude.{◌≡◌, ◌↔◌, List, [], map, false, IsTrue};
 ghost use Rattle.luf_guard.specs.Space.{NeedSpace, StandApart};
 ghost use Rattle.luf_draft.specs.Flat.{shown};
 ghost use Rattle.luf_style.specs.inner.Running.{text_of, first_flat, has_text};
 ghost use Rattle.luf_style.specs.inner.Written.{IsText};
 
 use crate::spelling::{sign_spelling, word_spelling};
+use crate::texts::Texts;
 use luf_draft::Mark;
 use luf_guard::needs_space;
-use luf_text::Bytes;
 
 /// The text of a mark; none where it has none.
-pub(crate) fn text_of(written: &[Bytes], mark: Mark) -> &[u8]
+pub(crate) fn text_of(written: &Texts, mark: Mark) -> &[u8]
     ensures { result.now ≡ text_of (shown written.now mark) }
 {
     match mark {
-        Mark::Token(n) => token_text(written, n as usize),
+        Mark::Token(n) => written.get(n as usize),
         Mark::Word(word) => word_spelling(word),
         Mark::Sign(sign) => sign_spelling(sign),
         Mark::Gap(_) | Mark::Trail | Mark::Open(_) | Mark::Close => b"",
-    }
-}
-
-fn token_text(written: &[Bytes], n: usize) -> &[u8]
-    ensures { result.now ≡ get_or written.now n [] }
-{
-    match written.get(n) {
-        Some(bytes) => bytes.as_slice(),
-        None => b"",
     }
 }
 
@@ -39,7 +30,7 @@ fn has_text(mark: Mark) -> bool
 }
 
 /// The first text of marks; none where they have none.
-pub(crate) fn first_text<'a>(written: &'a [Bytes], marks: &[Mark]) -> &'a [u8]
+pub(crate) fn first_text<'a>(written: &'a Texts, marks: &[Mark]) -> &'a [u8]
     ensures { result.now ≡ first_flat (map (shown written.now) marks.now) }
 {
     for mark in marks {

@@ -1,5 +1,5 @@
 // How the tokens of a source are written.
-ghost use Rattle.std.specs.Prelude.{◌≡◌, ◌<◌, ◌^◌, ℕ, List, Some, length, slice_get, IfOk, IfSome};
+ghost use Rattle.std.specs.Prelude.{◌≡◌, ◌<◌, ◌^◌, ◌++◌, ℕ, List, [], ◌∷◌, Some, length, slice_get, IfOk, IfSome, OnOk};
 ghost use Rattle.std.specs.Option.{option_copied};
 ghost use Rattle.luf_str.specs.Requote.{IsRequoted};
 ghost use Rattle.luf_lex.specs.Cut.{IsCut};
@@ -10,6 +10,7 @@ ghost use Rattle.luf_lex.specs.declared.token.Kind.TheVariants.{Token};
 ghost use Rattle.luf_style.specs.Styled.{AreWritten};
 ghost use Rattle.luf_style.specs.inner.Written.{IsWritten, quote_in};
 
+use crate::texts::Texts;
 use luf_lex::{Cut, Tok};
 use luf_memory::Memory;
 use luf_quote::{QuoteStyle, choose};
@@ -23,15 +24,47 @@ pub(crate) fn write_tokens(
     src: &[u8],
     cut: &Cut,
     style: QuoteStyle,
-) -> Result<Vec<Bytes>, Memory>
+) -> Result<Texts, Memory>
     requires { IsCut src.now cut.now }
-    ensures { IfOk result (λ written. AreWritten (quote_in style) (toks_of cut.now) (spellings_of src.now cut.now) written.items) }
+    ensures { IfOk result (λ written. AreWritten (quote_in style) (toks_of cut.now) (spellings_of src.now cut.now) written) }
 {
-    let mut written = Vec::with_capacity(alloc, cut.tokens() as usize)?;
+    let mut written = Texts::new(alloc, cut.tokens() as usize)?;
     for n in 0..cut.tokens() {
-        written.push(write_numbered(alloc, src, cut, n, style)?)?;
+        add_text(alloc, src, cut, n, style, &mut written)?;
     }
     Ok(written)
+}
+
+/// Adds token `n` as it is written.
+fn add_text(
+    alloc: Global,
+    src: &[u8],
+    cut: &Cut,
+    n: u32,
+    style: QuoteStyle,
+    into: &mut Texts,
+) -> Result<(), Memory>
+    requires { IsCut src.now cut.now }
+    ensures { OnOk result ((written : List ℕ) × ((tok : Toks) (spelling : List ℕ) → slice_get (toks_of cut.now) n ≡ Some tok → slice_get (spellings_of src.now cut.now) n ≡ Some spelling → IsWritten (quote_in style) tok spelling written) × (into.new ≡ into.old ++ written ∷ [])) }
+{
+    if let Some(spelling) = kept(src, cut, n) {
+        return into.push(spelling);
+    }
+    let text = write_numbered(alloc, src, cut, n, style)?;
+    into.push(text.as_slice())
+}
+
+/// How token `n` is spelled, if it is written so in every style.
+fn kept<'a>(src: &'a [u8], cut: &Cut, n: u32) -> Option<&'a [u8]>
+    requires { IsCut src.now cut.now }
+    ensures { IfSome result (λ s. (quote : List ℕ → ℕ) (tok : Toks) (spelling : List ℕ) → slice_get (toks_of cut.now) n ≡ Some tok → slice_get (spellings_of src.now cut.now) n ≡ Some spelling → IsWritten quote tok spelling s.now) }
+{
+    let tok = cut.token(n)?;
+    let spelling = cut.spelling(src, n)?;
+    match tok {
+        Tok::Short => None,
+        _ => Some(spelling),
+    }
 }
 
 /// The bytes of token `n` as it is written.

@@ -1,6 +1,8 @@
 -- Where the empty lines before the notes of a gap are left out.
 use Rattle.std.specs.Prelude.{ℕ, zero, suc, Bool, true, false, ◌||◌, List, [], ◌∷◌, cond}
 use Rattle.luf_doc.specs.declared.doc.Remark.{Remark}
+use Rattle.luf_draft.specs.Draft.{Border}
+use Rattle.luf_draft.specs.Draft as draft
 use Rattle.luf_style.specs.Filled.{without_blank}
 
 -- the first note before which a break stands, counted from 0, where the note before these ends its line or does not
@@ -23,3 +25,8 @@ is_outside zero (suc from) count = true
 is_outside (suc n) zero zero = true
 is_outside (suc n) zero (suc count) = is_outside n zero count
 is_outside (suc n) (suc from) count = is_outside n from count
+
+-- before a later statement of a block
+abbrev pub is_later : Border → Bool
+is_later draft.later_statement = true
+is_later _ = false

@@ -9,7 +9,7 @@ use Rattle.luf_draft.specs.declared.mark.Mark.{Mark}
 use Rattle.luf_draft.specs.declared.mark.Mark.TheVariants as mark
 use Rattle.luf_draft.specs.declared.mark.Part.{Part}
 use Rattle.luf_draft.specs.declared.mark.Part.TheVariants.{Nest, Group, Sequence}
-use Rattle.luf_gaps.specs.Gaps.{empty_gap}
+use Rattle.luf_gaps.specs.Gaps.{next_gap}
 use Rattle.luf_gaps.specs.declared.notes.GapNotes.{GapNotes}
 use Rattle.luf_style.specs.Filled.{IsGap}
 use Rattle.luf_style.specs.declared.filling.Filling.{Filling}
@@ -41,10 +41,6 @@ first_flat (flat_gap gap ∷ rest) = first_flat rest
 first_flat (flat_trail ∷ rest) = first_flat rest
 first_flat (flat_open part ∷ rest) = first_flat rest
 first_flat (flat_close ∷ rest) = first_flat rest
-
-abbrev pub next_gap : List GapNotes → GapNotes
-next_gap [] = empty_gap
-next_gap (gap ∷ gaps) = gap
 
 -- the only one of these, or a `,` where there is none
 abbrev pub last_of : List Document → Document

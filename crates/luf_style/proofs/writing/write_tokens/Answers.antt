@@ -7,10 +7,11 @@ use Rattle.luf_style.proofs.writing.write_tokens.Goals as goal
 pub loop-n-preserved : goal.loop-n-preserved
 loop-n-preserved c =
     let count = c.tokens-n-end.ensures.count in
-    writes_more (quote_in c.args.style) (toks_of c.args.cut.now) (spellings_of c.args.src.now c.args.cut.now) c.loop-n.n c.loop-n.written.items c.push.new.self.items c.in_ok-write_numbered.field-0
-    c.loop-n.invariant (omega arith) (as_many c.args.src.now c.args.cut.now) c.in_ok-write_numbered.ensures c.in_ok-push.ensures.items
+    let added = c.in_ok-add_text.ensures in
+    writes_more (quote_in c.args.style) (toks_of c.args.cut.now) (spellings_of c.args.src.now c.args.cut.now) c.loop-n.n c.loop-n.written c.add_text.new.into added.0
+    c.loop-n.invariant (omega arith) (as_many c.args.src.now c.args.cut.now) added.1 added.2
 
 pub returns : goal.returns
 returns c =
     let count = c.tokens-n-end.ensures.count in
-    writes_end (quote_in c.args.style) (toks_of c.args.cut.now) (spellings_of c.args.src.now c.args.cut.now) c.loop-n.n c.loop-n.written.items c.loop-n.invariant (omega arith) (as_many c.args.src.now c.args.cut.now)
+    writes_end (quote_in c.args.style) (toks_of c.args.cut.now) (spellings_of c.args.src.now c.args.cut.now) c.loop-n.n c.loop-n.written c.loop-n.invariant (omega arith) (as_many c.args.src.now c.args.cut.now)

@@ -4,4 +4,4 @@ use Rattle.luf_style.proofs.WrittenLaws.{Writes}
 use Rattle.luf_style.proofs.writing.write_tokens.Given as goal
 
 abbrev pub invariant-loop-n : goal.invariant-loop-n
-invariant-loop-n l = Writes (quote_in l.style) (toks_of l.cut) (spellings_of l.src l.cut) l.n l.written.items
+invariant-loop-n l = Writes (quote_in l.style) (toks_of l.cut) (spellings_of l.src l.cut) l.n l.written
