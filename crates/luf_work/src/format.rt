@@ -1,10 +1,7 @@
 // `format`: the program of a source as the options lay it out, with its comments.
 ghost use Rattle.std.specs.Prelude.{◌≡◌, ◌≢◌, ◌<◌, ◌≤◌, ◌^◌, ◌↔◌, ◌⊎◌, ◌++◌, ℕ, List, length, take, Ok, Err, IfErr, OnOk, OnErr, IsErrOf};
 ghost use Rattle.luf_conf.specs.Settings.{AreInRange};
-ghost use Rattle.luf_doc.specs.Document.{document_of};
-ghost use Rattle.luf_doc.specs.Layout.{layout};
-ghost use Rattle.luf_doc.specs.Table.{node_count};
-ghost use Rattle.luf_style.specs.Styled.{IsFormatted, choices_of, hash_text};
+ghost use Rattle.luf_style.specs.Styled.{IsFormatted, choices_of};
 ghost use Rattle.luf_work.specs.Format.{IsFormatAccepted, IsFormatRefusal, KeepsSource};
 ghost use Rattle.luf_work.specs.Limits.{source_limit, text_limit};
 ghost use Rattle.luf_work.specs.inner.Read.{IsRead};
@@ -14,12 +11,9 @@ use crate::hash::write_hash_line;
 use crate::source::{ReadSource, accepted};
 use crate::{Refusal, TEXT_LIMIT};
 use luf_conf::Options;
-use luf_doc::{Doc, DocTable, Ledger, Page, Steps};
 use luf_memory::Memory;
-use luf_style::{lay_table, style};
+use luf_style::write_styled;
 use std::alloc::Global;
-use std::marker::Brand;
-use std::sync::ledger::Blank;
 
 /// Appends the formatted text of a source under options. A source that `format` accepts has `Ok` or `Memory`, and no
 /// other has `Ok`. An error leaves `into` as it was. `one_formatted_text` says that a source has at most one text.
@@ -79,56 +73,29 @@ fn write_text(
     ensures ok { OnOk result ((text : List ℕ) × IsFormatted (choices_of o.now) src.now text × (into.new.items ≡ into.old.items ++ text)) }
     ensures err { OnErr result (into.new.items ≡ into.old.items) }
 {
-    let document = style(alloc, src, &source.pieces, &source.chunk, o)?;
     let len = into.len();
-    if let Err(e) = write_document(alloc, src, document, o, into) {
+    if let Err(e) = write_lines(alloc, src, source, o, into) {
         into.truncate(len);
         return Err(e);
     }
     Ok(())
 }
 
-/// Appends the `#` line and the layout of a document. What an error leaves begins with what was there.
-fn write_document(
+/// Appends the `#` line and the layout of the document. What an error leaves begins with what was there.
+fn write_lines(
     alloc: Global,
     src: &[u8],
-    document: Doc,
+    source: &ReadSource,
     o: &Options,
     into: &mut Vec<u8>,
 ) -> Result<(), Memory>
     requires range { AreInRange o.now }
-    requires small { node_count (document_of document) < 2 ^ 32 }
-    ensures ok { OnOk result (into.new.items ≡ into.old.items ++ (hash_text src.now ++ layout (choices_of o.now).page (document_of document))) }
+    requires read { IsRead src.now source.now }
+    ensures ok { OnOk result ((text : List ℕ) × IsFormatted (choices_of o.now) src.now text × (into.new.items ≡ into.old.items ++ text)) }
     ensures err { OnErr result (take (length into.old.items) into.new.items ≡ into.old.items) }
 {
-    let table = DocTable::of(alloc, document)?;
     if let Err(e) = write_hash_line(src, into) {
         return Err(e);
     }
-    let page = Page {
-        width: o.column_width,
-        tabs: o.tabs,
-        unit: o.indent_width,
-    };
-    write_layout::<Brand>(alloc, &table, &page, into, Blank::new(1))
-}
-
-/// Appends the layout of the document of a table. The steps are counted by a ledger of their own, and not told.
-fn write_layout<L: Ledger>(
-    alloc: Global,
-    table: &DocTable,
-    page: &Page,
-    into: &mut Vec<u8>,
-    blank: Blank,
-) -> Result<(), Memory>
-    requires name { blank.name ≡ L.name }
-    requires parts { blank.parts ≡ L.parts }
-    requires some { 0 < blank.parts }
-    requires width { page.now.width ≤ 10000 }
-    requires unit { page.now.unit ≤ 16 }
-    ensures ok { OnOk result (into.new.items ≡ into.old.items ++ layout page.now (document_of table.now)) }
-    ensures err { OnErr result (into.new.items ≡ into.old.items) }
-{
-    let mut steps = Steps::<L>::new(blank);
-    lay_table(alloc, table, page, into, &mut steps)
+    write_styled(alloc, src, &source.pieces, &source.chunk, o, into)
 }

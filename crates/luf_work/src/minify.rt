@@ -8,10 +8,10 @@ ghost use Rattle.luf_resolved.specs.Source.{IsSource};
 ghost use Rattle.luf_min.specs.Minified.{IsMinified};
 ghost use Rattle.luf_work.specs.Limits.{source_limit, text_limit};
 ghost use Rattle.luf_work.specs.Minify.{IsMinifyAccepted, IsMinifyRefusal, KeepsProgram};
-ghost use Rattle.luf_work.specs.inner.Read.{IsRead};
+ghost use Rattle.luf_work.specs.inner.Read.{IsNamed};
 ghost use Rattle.luf_work.specs.declared.refusal.Refusal.{Refusal as Cause};
 
-use crate::source::{ReadSource, accepted};
+use crate::source::{NamedSource, ReadSource, named};
 use crate::{Refusal, SOURCE_LIMIT, TEXT_LIMIT};
 use luf_goto::Jumps;
 use luf_interf::{Names, names_read};
@@ -52,7 +52,7 @@ pub fn minify_bytes(alloc: Global, src: &[u8], into: &mut Vec<u8>) -> Result<(),
     if let Err(e) = make_room(src, into) {
         return Err(Refusal::from(e));
     }
-    let source = accepted(alloc, src)?;
+    let source = named(alloc, src)?;
     let len = into.len();
     if let Err(e) = write_text(alloc, src, source, into) {
         return Err(Refusal::from(e));
@@ -81,16 +81,15 @@ fn make_room(src: &[u8], into: &mut Vec<u8>) -> Result<(), Memory>
 fn write_text(
     alloc: Global,
     src: &[u8],
-    source: ReadSource,
+    source: NamedSource,
     into: &mut Vec<u8>,
 ) -> Result<(), Memory>
-    requires { IsRead src.now source }
+    requires { IsNamed src.now source }
     ensures ok { OnOk result ((text : List ℕ) × IsMinified src.now text × (into.new.items ≡ into.old.items ++ text)) }
     ensures err { OnErr result (into.new.items ≡ into.old.items) }
 {
-    let ReadSource {
-        chunk,
-        pieces,
+    let NamedSource {
+        source: ReadSource { chunk, pieces },
         links,
         jumps,
         occurrences,

@@ -3,34 +3,41 @@ ghost use Rattle.std.specs.Prelude.{◌≡◌, ◌≢◌, ◌<◌, ◌≤◌, �
 ghost use Rattle.luf_text.specs.Place.{place_in};
 ghost use Rattle.luf_lex.specs.Cut.{IsCut};
 ghost use Rattle.luf_lex.specs.Tokens.{toks_of};
-ghost use Rattle.luf_scope.specs.Fault.{first_of};
+ghost use Rattle.luf_scope.specs.Fault.{first_fault, first_of, jump_faults, name_faults};
 ghost use Rattle.luf_scope.specs.Links.{spelling_in, occurrences_of, AreLinks};
 ghost use Rattle.luf_goto.specs.Jumps.{AreJumps};
 ghost use Rattle.luf_work.specs.Limits.{source_limit};
 ghost use Rattle.luf_work.specs.Refusals.{start_of, IsSourceRefusal};
 ghost use Rattle.luf_resolved.specs.Source.{IsSource, scope_fault_of};
-ghost use Rattle.luf_work.specs.inner.Read.{IsRead, AreFoundNames, AreFoundJumps};
+ghost use Rattle.luf_work.specs.inner.Read.{IsRead, IsNamed, AreFoundNames, AreFoundJumps};
 
 use crate::{Refusal, SOURCE_LIMIT};
 use luf_goto::{Jumps, labels_read};
 use luf_lex::{Cut, LexErr, cut};
 use luf_memory::Memory;
 use luf_parse::{ParseErr, parse};
-use luf_scope::{Links, Occurrence, ScopeBad, ScopeErr, first_of, occurrences, resolve_read};
+use luf_scope::{
+    Links, Occurrence, ScopeBad, ScopeErr, check_names, first_of, occurrences, resolve_read,
+};
 use luf_text::{Place, place_of};
 use luf_tree::Chunk;
 use std::alloc::Global;
 
-/// A source that every job accepts: its pieces, what its names and labels are, what its chunk says of them, and its tree.
-/// The tree is dropped last: an allocator that joins what is free when something large is freed, as glibc's, need not do so
-/// for the many small parts of it.
+/// A source with its pieces and its tree. The tree is dropped last: an allocator that joins what is free when something
+/// large is freed, as glibc's, need not do so for the many small parts of it.
 #[derive(Drop)]
 pub(crate) struct ReadSource {
     pub pieces: Cut,
+    pub chunk: Chunk,
+}
+
+/// A source that every job accepts, with what its names and labels are, and what its chunk says of them.
+#[derive(Drop)]
+pub(crate) struct NamedSource {
     pub links: Links,
     pub jumps: Jumps,
     pub occurrences: Vec<Occurrence>,
-    pub chunk: Chunk,
+    pub source: ReadSource,
 }
 
 /// A source that every job accepts, or the first cause for which it is refused.
@@ -40,19 +47,41 @@ pub(crate) fn accepted(alloc: Global, src: &[u8]) -> Result<ReadSource, Refusal>
     ensures refused { IfErr result (λ refusal. refusal ≢ Refusal.Memory → IsSourceRefusal src.now refusal) }
     ensures too_large { IsErrOf result Refusal.TooLarge ↔ (source_limit < length src.now) }
 {
+    let source = parsed(alloc, src)?;
+    check_scopes(alloc, src, &source.pieces, &source.chunk)?;
+    Ok(source)
+}
+
+/// The same, with what its names and labels are.
+pub(crate) fn named(alloc: Global, src: &[u8]) -> Result<NamedSource, Refusal>
+    ensures within { IfOk result (λ _. length src.now ≤ source_limit) }
+    ensures ok { IfOk result (λ a. IsNamed src.now a) }
+    ensures refused { IfErr result (λ refusal. refusal ≢ Refusal.Memory → IsSourceRefusal src.now refusal) }
+    ensures too_large { IsErrOf result Refusal.TooLarge ↔ (source_limit < length src.now) }
+{
+    let source = parsed(alloc, src)?;
+    let meanings = meanings_of(alloc, src, &source.pieces, &source.chunk)?;
+    Ok(NamedSource {
+        links: meanings.links,
+        jumps: meanings.jumps,
+        occurrences: meanings.occurrences,
+        source,
+    })
+}
+
+/// A source that has a tree, or the first cause for which it is refused before names are looked at.
+fn parsed(alloc: Global, src: &[u8]) -> Result<ReadSource, Refusal>
+    ensures within { IfOk result (λ _. length src.now ≤ source_limit) }
+    ensures ok { IfOk result (λ a. IsSource src.now a.pieces a.chunk) }
+    ensures refused { IfErr result (λ refusal. refusal ≢ Refusal.Memory → IsSourceRefusal src.now refusal) }
+    ensures too_large { IsErrOf result Refusal.TooLarge ↔ (source_limit < length src.now) }
+{
     if src.len() > SOURCE_LIMIT {
         return Err(Refusal::TooLarge);
     }
     let pieces = pieces_of(alloc, src)?;
     let chunk = tree_of(alloc, src, &pieces)?;
-    let meanings = meanings_of(alloc, src, &pieces, &chunk)?;
-    Ok(ReadSource {
-        pieces,
-        links: meanings.links,
-        jumps: meanings.jumps,
-        occurrences: meanings.occurrences,
-        chunk,
-    })
+    Ok(ReadSource { pieces, chunk })
 }
 
 /// The pieces of a source, or the place of its lexical fault.
@@ -84,6 +113,61 @@ fn tree_of(alloc: Global, src: &[u8], pieces: &Cut) -> Result<Chunk, Refusal>
             src, pieces, token,
         ))),
         Err(ParseErr::Memory) => Err(Refusal::Memory),
+    }
+}
+
+/// Looks for a scope fault of a source, and tells the place of the first one.
+fn check_scopes(alloc: Global, src: &[u8], pieces: &Cut, chunk: &Chunk) -> Result<(), Refusal>
+    requires within { length src.now ≤ source_limit }
+    requires source { IsSource src.now pieces.now chunk.now }
+    ensures ok { IfOk result (λ _. scope_fault_of src.now pieces.now chunk.now ≡ None) }
+    ensures refused { IfErr result (λ refusal. refusal ≢ Refusal.Memory → IsSourceRefusal src.now refusal) }
+    ensures within { ¬ IsErrOf result Refusal.TooLarge }
+{
+    let occurrences = occurrences(alloc, chunk)?;
+    let name = name_fault(alloc, src, pieces, chunk, occurrences.as_slice())?;
+    let jump = jump_fault(alloc, src, pieces, chunk, occurrences.as_slice())?;
+    match first_of(name, jump) {
+        Some(bad) => Err(Refusal::Scope(place_of_token(src, pieces, bad.token), bad.what)),
+        None => Ok(()),
+    }
+}
+
+/// The first fault of names.
+fn name_fault(
+    alloc: Global,
+    src: &[u8],
+    pieces: &Cut,
+    chunk: &Chunk,
+    os: &[Occurrence],
+) -> Result<Option<ScopeBad>, Memory>
+    requires source { IsSource src.now pieces.now chunk.now }
+    requires read { os.now ≡ occurrences_of chunk.now }
+    ensures { IfOk result (λ found. found ≡ first_fault (name_faults (spelling_in src.now pieces.now) (occurrences_of chunk.now))) }
+{
+    match check_names(alloc, src, pieces, chunk, os) {
+        Ok(()) => Ok(None),
+        Err(ScopeErr::Bad(bad)) => Ok(Some(bad)),
+        Err(ScopeErr::Memory) => Err(Memory),
+    }
+}
+
+/// The first fault of jumps.
+fn jump_fault(
+    alloc: Global,
+    src: &[u8],
+    pieces: &Cut,
+    chunk: &Chunk,
+    os: &[Occurrence],
+) -> Result<Option<ScopeBad>, Memory>
+    requires source { IsSource src.now pieces.now chunk.now }
+    requires read { os.now ≡ occurrences_of chunk.now }
+    ensures { IfOk result (λ found. found ≡ first_fault (jump_faults (spelling_in src.now pieces.now) (occurrences_of chunk.now))) }
+{
+    match labels_read(alloc, src, pieces, chunk, os) {
+        Ok(_) => Ok(None),
+        Err(ScopeErr::Bad(bad)) => Ok(Some(bad)),
+        Err(ScopeErr::Memory) => Err(Memory),
     }
 }
 

@@ -9,6 +9,7 @@ use Rattle.luf_scope.specs.declared.fault.ScopeBad.{ScopeBad}
 use Rattle.luf_scope.specs.declared.jump.JumpRole.{JumpRole}
 use Rattle.luf_goto.specs.Jumps.{AreJumps}
 use Rattle.luf_resolved.specs.Source.{IsSource, scope_fault_of}
+use Rattle.luf_work.specs.declared.source.NamedSource.{NamedSource}
 use Rattle.luf_work.specs.declared.source.ReadSource.{ReadSource}
 
 module _ (source : List ℕ) (pieces : List Piece) (chunk : Chunk) where
@@ -26,6 +27,10 @@ module _ (source : List ℕ) (pieces : List Piece) (chunk : Chunk) where
 pub record IsRead (source : List ℕ) (a : ReadSource) : Type 0 where
   pub is : IsSource source a.pieces a.chunk
   pub scopes : scope_fault_of source a.pieces a.chunk ≡ None
-  pub links : AreLinks (spelling_in source a.pieces) (occurrences_of a.chunk) (length (toks_of a.pieces)) a.links
-  pub jumps : AreJumps (spelling_in source a.pieces) (occurrences_of a.chunk) a.jumps
-  pub read : a.occurrences.items ≡ occurrences_of a.chunk
+
+-- and what its names and labels are
+pub record IsNamed (source : List ℕ) (a : NamedSource) : Type 0 where
+  pub is : IsRead source a.source
+  pub links : AreLinks (spelling_in source a.source.pieces) (occurrences_of a.source.chunk) (length (toks_of a.source.pieces)) a.links
+  pub jumps : AreJumps (spelling_in source a.source.pieces) (occurrences_of a.source.chunk) a.jumps
+  pub read : a.occurrences.items ≡ occurrences_of a.source.chunk

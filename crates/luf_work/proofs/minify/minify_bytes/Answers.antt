@@ -20,7 +20,7 @@ returns-in_err-source-clause-exact c = told c.args.src.now _ (passed c.args.src.
 pub returns-then-len-gt-TEXT_LIMIT-clause-refused : goal.returns-then-len-gt-TEXT_LIMIT-clause-refused
 returns-then-len-gt-TEXT_LIMIT-clause-refused c = λ other.
     let written = c.in_default-write_text.ensures.ok in (
-      accepted_of c.args.src.now c.in_ok-source.source c.in_ok-source.ensures.within c.in_ok-source.ensures.ok,
+      accepted_of c.args.src.now c.in_ok-source.source.source c.in_ok-source.ensures.within c.in_ok-source.ensures.ok.is,
       record {
         text = written.0;
         minified = written.1;
@@ -40,7 +40,7 @@ pub returns-clause-accepted : goal.returns-clause-accepted
 returns-clause-accepted c =
     let written = c.in_default-write_text.ensures.ok in
     record {
-      accepted = accepted_of c.args.src.now c.in_ok-source.source c.in_ok-source.ensures.within c.in_ok-source.ensures.ok;
+      accepted = accepted_of c.args.src.now c.in_ok-source.source.source c.in_ok-source.ensures.within c.in_ok-source.ensures.ok.is;
       text = written.0;
       minified = written.1;
       fits = omega (arith, c.if-len-gt-TEXT_LIMIT.false, ap length written.2, length-append c.make_room.new.into.items written.0, c.len-len.ensures);
