@@ -1,11 +1,15 @@
--- The index of the comments of a cut, built one piece at a time.
-use Rattle.std.proofs.Common.{◌≡◌, ℕ, zero, suc, ◌+◌, ◌-◌, ◌<◌, ◌≤◌, Bool, true, false, not, ◌==◌, cond, List, [], ◌∷◌, ◌++◌, length, take, drop, get_or, refl, sym, ap, ◌∙◌, subst, arith, append_assoc, append-nil, length-append, length-drop, add-one}
+-- The index of the comments of a cut.
+use Rattle.std.proofs.Common.{◌≡◌, ℕ, zero, suc, ◌+◌, ◌-◌, ◌<◌, ◌≤◌, ◌⊎◌, inl, inr, Option, None, Some, Bool, true, false, not, ◌==◌, cond, List, [], ◌∷◌, ◌++◌, length, take, drop, get_or, refl, sym, ap, ◌∙◌, subst, arith, append_assoc, append-nil, length-append, length-drop, add-one}
 use Rattle.std.proofs.Math.Dec.{eqb-zero-suc, eqb-suc-zero, eqb-suc-suc}
-use Rattle.std.specs.Prelude.{slice_range}
+use Rattle.std.specs.Prelude.{slice_range, slice_get}
+use Rattle.std.specs.Option.{option_to_list, option_map}
 use Rattle.std.specs.List.{suffix_len}
-use Rattle.std.proofs.Math.Seq.{take-length, drop-length}
-use Rattle.std.proofs.lemmas.List.{drop-append-le, take-append-le, drop_more, take_more, take_all, drop_all, get_or_default}
+use Rattle.std.proofs.Math.Seq.{take-length, drop-length, take-append_seam, drop-append-add}
+use Rattle.std.proofs.lemmas.List.{drop-append-le, take-append-le, take_more, get_or_default}
+use Rattle.std.proofs.lemmas.Bool.{cond-true, cond-false}
+use Rattle.std.proofs.lemmas.Option.{slice_get-get_or}
 use Rattle.luf_lex.specs.inner.Leads.{notes_at, IsRising, IsLeadIndex}
+use Rattle.luf_lex.specs.inner.Growing.{comment_places, comments_before}
 use Rattle.luf_lex.specs.Note.{is_comment, is_content, note_of, lead_from, lead_of, last_gap}
 use Rattle.luf_lex.specs.Tokens.{is_token, tokens_of}
 use Rattle.luf_lex.specs.declared.note.Note.{Note}
@@ -13,7 +17,7 @@ use Rattle.luf_lex.specs.declared.token.Kind.{Kind}
 use Rattle.luf_lex.specs.declared.token.Kind.TheVariants.{Token, Comment}
 use Rattle.luf_lex.specs.declared.token.Piece.{Piece}
 use Rattle.luf_lex.specs.declared.token.Tok.{Tok}
-use Rattle.luf_lex.proofs.TokenLemmas.{length_tokens}
+use Rattle.luf_lex.proofs.TokenLemmas.{length_tokens, at_seam}
 
 -- ---- bounds
 rising_le : (bounds : List ℕ) (end more : ℕ) → end ≤ more → IsRising end bounds → IsRising more bounds
@@ -114,7 +118,7 @@ pub record IsLeadIndexSoFar (notes : List Note) (bounds : List ℕ) (before afte
   pub few : length notes ≤ length before
   pub leads : (n : ℕ) → notes_at notes bounds n ++ lead_from n before after ≡ lead_of pieces n
 
-pub none_so_far : (pieces : List Piece) → IsLeadIndexSoFar [] (0 ∷ []) [] pieces pieces
+none_so_far : (pieces : List Piece) → IsLeadIndexSoFar [] (0 ∷ []) [] pieces pieces
 none_so_far pieces = record { rising = omega arith; count = refl; few = omega arith; leads = from }
   where
     from : (n : ℕ) → notes_at [] (0 ∷ []) n ++ lead_from n [] pieces ≡ lead_of pieces n
@@ -165,46 +169,108 @@ with_other notes bounds before p after pieces h no_comment no_token = record {
   leads = λ n. ap (λ ys. notes_at notes bounds n ++ ys) (sym (lead_other n before p after no_comment)) ∙ h.leads n;
 }
 
+-- ---- all pieces, one after another
+kind_cases : (k : Kind) → ((t : Tok) × (k ≡ Token t)) ⊎ ((k ≡ Comment) ⊎ ((is_token k ≡ false) × (is_comment k ≡ false)))
+kind_cases (Token t) = inl (t, refl)
+kind_cases Comment = inr (inl refl)
+kind_cases _ = inr (inr (refl, refl))
+
+-- all comments of the later pieces
+abbrev pub notes_from : List Piece → List Piece → List Note
+notes_from before [] = []
+notes_from before (p ∷ after) = cond (is_comment p.kind) (note_of before p after ∷ notes_from (before ++ p ∷ []) after) (notes_from (before ++ p ∷ []) after)
+
+same_so_far : (notes notes' : List Note) (bounds bounds' : List ℕ) (before before' pieces : List Piece) → notes ≡ notes' → bounds ≡ bounds' → before ≡ before' → IsLeadIndexSoFar notes bounds before [] pieces → IsLeadIndexSoFar notes' bounds' before' [] pieces
+same_so_far notes notes' bounds bounds' before before' pieces n b p h =
+    subst (λ x. IsLeadIndexSoFar x bounds' before' [] pieces) n (subst (λ x. IsLeadIndexSoFar notes x before' [] pieces) b (subst (λ x. IsLeadIndexSoFar notes bounds x [] pieces) p h))
+
+index_all : (notes : List Note) (bounds : List ℕ) (before after pieces : List Piece) → IsLeadIndexSoFar notes bounds before after pieces
+    → IsLeadIndexSoFar (notes ++ notes_from before after) (bounds ++ comments_before (length notes) after) (before ++ after) [] pieces
+index_all notes bounds before [] pieces h = same_so_far _ _ _ _ _ _ pieces (sym (append-nil notes)) (sym (append-nil bounds)) (sym (append-nil before)) h
+index_all notes bounds before (p ∷ after) pieces h = by_kind (kind_cases p.kind) (λ ns bs. index_all ns bs (before ++ p ∷ []) after pieces)
+  where
+    by_kind : ((t : Tok) × (p.kind ≡ Token t)) ⊎ ((p.kind ≡ Comment) ⊎ ((is_token p.kind ≡ false) × (is_comment p.kind ≡ false)))
+        → ((ns : List Note) (bs : List ℕ) → IsLeadIndexSoFar ns bs (before ++ p ∷ []) after pieces → IsLeadIndexSoFar (ns ++ notes_from (before ++ p ∷ []) after) (bs ++ comments_before (length ns) after) ((before ++ p ∷ []) ++ after) [] pieces)
+        → IsLeadIndexSoFar (notes ++ notes_from before (p ∷ after)) (bounds ++ comments_before (length notes) (p ∷ after)) (before ++ p ∷ after) [] pieces
+    by_kind (inl (t, e)) later =
+        let token : is_token p.kind ≡ true = ap is_token e in
+        let no_comment : is_comment p.kind ≡ false = ap is_comment e in
+        same_so_far _ _ _ _ _ _ pieces
+        (ap (λ ys. notes ++ ys) (sym (cond-false _ _ _ no_comment)))
+        (append_assoc bounds (length notes ∷ []) (comments_before (length notes) after) ∙ ap (λ ys. bounds ++ ys) (sym (cond-true _ _ _ token)))
+        (append_assoc before (p ∷ []) after)
+        (later notes (bounds ++ length notes ∷ []) (with_token notes bounds before p after pieces h no_comment token))
+    by_kind (inr (inl e)) later =
+        let no_token : is_token p.kind ≡ false = ap is_token e in
+        let comment : is_comment p.kind ≡ true = ap is_comment e in
+        let x : Note = note_of before p after in
+        same_so_far _ _ _ _ _ _ pieces
+        (append_assoc notes (x ∷ []) (notes_from (before ++ p ∷ []) after) ∙ ap (λ ys. notes ++ ys) (sym (cond-true _ _ _ comment)))
+        (ap (λ n. bounds ++ comments_before n after) (length-append notes (x ∷ [])) ∙ ap (λ ys. bounds ++ ys) (sym (cond-false _ _ _ no_token ∙ cond-true _ _ _ comment)))
+        (append_assoc before (p ∷ []) after)
+        (later (notes ++ x ∷ []) bounds (with_comment notes bounds before p after pieces h comment no_token))
+    by_kind (inr (inr e)) later =
+        same_so_far _ _ _ _ _ _ pieces
+        (ap (λ ys. notes ++ ys) (sym (cond-false _ _ _ e.1)))
+        (ap (λ ys. bounds ++ ys) (sym (cond-false _ _ _ e.0 ∙ cond-false _ _ _ e.1)))
+        (append_assoc before (p ∷ []) after)
+        (later notes bounds (with_other notes bounds before p after pieces h e.1 e.0))
+
+-- the notes at these places of the pieces
+abbrev pub note_at : List Piece → ℕ → List Note
+note_at pieces i = option_to_list (option_map (λ p. note_of (take i pieces) p (drop (i + 1) pieces)) (slice_get pieces i))
+
+abbrev pub noted : List Piece → List ℕ → List Note
+noted pieces [] = []
+noted pieces (i ∷ places) = note_at pieces i ++ noted pieces places
+
+noted_push : (pieces : List Piece) (places : List ℕ) (i : ℕ) → noted pieces (places ++ i ∷ []) ≡ noted pieces places ++ note_at pieces i
+noted_push pieces [] i = append-nil (note_at pieces i)
+noted_push pieces (j ∷ places) i = ap (λ ns. note_at pieces j ++ ns) (noted_push pieces places i) ∙ sym (append_assoc (note_at pieces j) (noted pieces places) (note_at pieces i))
+
+seam_note : (before : List Piece) (p : Piece) (after : List Piece) → note_at (before ++ p ∷ after) (length before) ≡ note_of before p after ∷ []
+seam_note before p after =
+    ap (λ o. option_to_list (option_map (λ q. note_of (take (length before) (before ++ p ∷ after)) q (drop (length before + 1) (before ++ p ∷ after))) o)) (at_seam before p after)
+    ∙ ap (λ front. note_of front p (drop (length before + 1) (before ++ p ∷ after)) ∷ []) (take-append_seam before (p ∷ after))
+    ∙ ap (λ rest. note_of before p rest ∷ []) (drop-append-add before (p ∷ after) 1)
+
+noted_all : (before after : List Piece) → noted (before ++ after) (comment_places (length before) after) ≡ notes_from before after
+noted_all before [] = refl
+noted_all before (p ∷ after) =
+    by_kind (is_comment p.kind) (ap (λ n. noted (before ++ p ∷ after) (comment_places n after)) (sym (length-append before (p ∷ []))) ∙ ap (λ ps. noted ps (comment_places (length (before ++ p ∷ [])) after)) (sym (append_assoc before (p ∷ []) after)) ∙ noted_all (before ++ p ∷ []) after)
+  where
+    by_kind : (b : Bool) → noted (before ++ p ∷ after) (comment_places (length before + 1) after) ≡ notes_from (before ++ p ∷ []) after
+        → noted (before ++ p ∷ after) (cond b (length before ∷ comment_places (length before + 1) after) (comment_places (length before + 1) after)) ≡ cond b (note_of before p after ∷ notes_from (before ++ p ∷ []) after) (notes_from (before ++ p ∷ []) after)
+    by_kind true later = ap (λ ns. ns ++ noted (before ++ p ∷ after) (comment_places (length before + 1) after)) (seam_note before p after) ∙ ap (λ ns. note_of before p after ∷ ns) later
+    by_kind false later = later
+
 -- all that is left from a place on
 tail_is : (pieces : List Piece) (i : ℕ) → take (length pieces - i) (drop i pieces) ≡ drop i pieces
 tail_is pieces i = ap (λ n. take n (drop i pieces)) (sym (length-drop i pieces)) ∙ take-length (drop i pieces)
 
--- ---- the loop over the pieces, at piece i
-at_piece : (notes : List Note) (bounds : List ℕ) (pieces : List Piece) (i : ℕ) (d : Piece) → i < length pieces → IsLeadIndexSoFar notes bounds (take i pieces) (drop i pieces) pieces → IsLeadIndexSoFar notes bounds (take i pieces) (get_or pieces i d ∷ drop (i + 1) pieces) pieces
-at_piece notes bounds pieces i d within h = subst (λ after. IsLeadIndexSoFar notes bounds (take i pieces) after pieces) (drop_more pieces i d within) h
+-- one more note
+note_here : (pieces : List Piece) (i : ℕ) (p : Piece) (x : Note) → slice_get pieces i ≡ Some p → x ≡ note_of (take i pieces) p (take (length pieces - (i + 1)) (drop (i + 1) pieces)) → note_at pieces i ≡ x ∷ []
+note_here pieces i p x found is =
+    ap (λ o. option_to_list (option_map (λ q. note_of (take i pieces) q (drop (i + 1) pieces)) o)) found
+    ∙ ap (λ rest. note_of (take i pieces) p rest ∷ []) (sym (tail_is pieces (i + 1)))
+    ∙ ap (λ y. y ∷ []) (sym is)
 
--- the index that the code has after it
-past_piece : (notes new_notes : List Note) (bounds new_bounds : List ℕ) (pieces : List Piece) (i : ℕ) (d : Piece) → i < length pieces → new_notes ≡ notes → new_bounds ≡ bounds → IsLeadIndexSoFar notes bounds (take i pieces ++ get_or pieces i d ∷ []) (drop (i + 1) pieces) pieces → IsLeadIndexSoFar new_notes new_bounds (take (i + 1) pieces) (drop (i + 1) pieces) pieces
-past_piece notes new_notes bounds new_bounds pieces i d within same same_bounds h =
-    subst (λ ns. IsLeadIndexSoFar ns new_bounds (take (i + 1) pieces) (drop (i + 1) pieces) pieces) (sym same)
-    (subst (λ bs. IsLeadIndexSoFar notes bs (take (i + 1) pieces) (drop (i + 1) pieces) pieces) (sym same_bounds)
-    (subst (λ before. IsLeadIndexSoFar notes bounds before (drop (i + 1) pieces) pieces) (sym (take_more pieces i d within)) h))
+pub noted_more : (pieces : List Piece) (places : List ℕ) (k : ℕ) (d : Piece) (x : Note) (old new : List Note) → k < length places → get_or places k 0 < length pieces
+    → x ≡ note_of (take (get_or places k 0) pieces) (get_or pieces (get_or places k 0) d) (take (length pieces - (get_or places k 0 + 1)) (drop (get_or places k 0 + 1) pieces))
+    → new ≡ old ++ x ∷ [] → old ≡ noted pieces (take k places) → new ≡ noted pieces (take (k + 1) places)
+noted_more pieces places k d x old new within inside is next so_far =
+    next ∙ ap (λ ns. ns ++ x ∷ []) so_far
+    ∙ ap (λ ns. noted pieces (take k places) ++ ns) (sym (note_here pieces (get_or places k 0) (get_or pieces (get_or places k 0) d) x (slice_get-get_or pieces (get_or places k 0) d inside) is))
+    ∙ sym (noted_push pieces (take k places) (get_or places k 0))
+    ∙ ap (noted pieces) (sym (take_more places k 0 within))
 
-pub comment_step : (notes new_notes : List Note) (bounds new_bounds : List ℕ) (pieces : List Piece) (i : ℕ) (d : Piece) (x : Note) → i < length pieces → (get_or pieces i d).kind ≡ Comment → x ≡ note_of (take i pieces) (get_or pieces i d) (take (length pieces - (i + 1)) (drop (i + 1) pieces)) → new_notes ≡ notes ++ x ∷ [] → new_bounds ≡ bounds → IsLeadIndexSoFar notes bounds (take i pieces) (drop i pieces) pieces → IsLeadIndexSoFar new_notes new_bounds (take (i + 1) pieces) (drop (i + 1) pieces) pieces
-comment_step notes new_notes bounds new_bounds pieces i d x within kind is same same_bounds h =
-    let p : Piece = get_or pieces i d in
-    past_piece _ new_notes bounds new_bounds pieces i d within
-    (same ∙ ap (λ y. notes ++ y ∷ []) is ∙ ap (λ after. notes ++ note_of (take i pieces) p after ∷ []) (tail_is pieces (i + 1))) same_bounds
-    (with_comment notes bounds (take i pieces) p (drop (i + 1) pieces) pieces (at_piece notes bounds pieces i d within h) (ap is_comment kind) (ap is_token kind))
+option_few : (o : Option Note) → length (option_to_list o) ≤ 1
+option_few None = omega arith
+option_few (Some x) = omega arith
 
-pub token_step : (notes new_notes : List Note) (bounds new_bounds : List ℕ) (pieces : List Piece) (i : ℕ) (d : Piece) (t : Tok) (len : ℕ) → i < length pieces → (get_or pieces i d).kind ≡ Token t → new_notes ≡ notes → len ≡ length notes → new_bounds ≡ bounds ++ len ∷ [] → IsLeadIndexSoFar notes bounds (take i pieces) (drop i pieces) pieces → IsLeadIndexSoFar new_notes new_bounds (take (i + 1) pieces) (drop (i + 1) pieces) pieces
-token_step notes new_notes bounds new_bounds pieces i d t len within kind same is same_bounds h =
-    past_piece notes new_notes _ new_bounds pieces i d within same (same_bounds ∙ ap (λ n. bounds ++ n ∷ []) is)
-    (with_token notes bounds (take i pieces) (get_or pieces i d) (drop (i + 1) pieces) pieces (at_piece notes bounds pieces i d within h) (ap is_comment kind) (ap is_token kind))
-
-no_comment : (k : Kind) → (k ≡ Comment → ⊥) → is_comment k ≡ false
-no_comment Comment none = absurd (none refl)
-no_comment _ none = refl
-
-no_token : (k : Kind) → ((t : Tok) → k ≡ Token t → ⊥) → is_token k ≡ false
-no_token (Token t) none = absurd (none t refl)
-no_token _ none = refl
-
-pub other_step : (notes new_notes : List Note) (bounds new_bounds : List ℕ) (pieces : List Piece) (i : ℕ) (d : Piece) → i < length pieces → ((get_or pieces i d).kind ≡ Comment → ⊥) → ((t : Tok) → (get_or pieces i d).kind ≡ Token t → ⊥) → new_notes ≡ notes → new_bounds ≡ bounds → IsLeadIndexSoFar notes bounds (take i pieces) (drop i pieces) pieces → IsLeadIndexSoFar new_notes new_bounds (take (i + 1) pieces) (drop (i + 1) pieces) pieces
-other_step notes new_notes bounds new_bounds pieces i d within not_comment not_token same same_bounds h =
-    let p : Piece = get_or pieces i d in
-    past_piece notes new_notes bounds new_bounds pieces i d within same same_bounds
-    (with_other notes bounds (take i pieces) p (drop (i + 1) pieces) pieces (at_piece notes bounds pieces i d within h) (no_comment p.kind not_comment) (no_token p.kind not_token))
+pub noted_few : (pieces : List Piece) (places : List ℕ) → length (noted pieces places) ≤ length places
+noted_few pieces [] = omega arith
+noted_few pieces (i ∷ places) = omega (arith, length-append (note_at pieces i) (noted pieces places), noted_few pieces places, option_few (option_map (λ p. note_of (take i pieces) p (drop (i + 1) pieces)) (slice_get pieces i)))
 
 last_bound : (notes : List Note) (bounds : List ℕ) (before pieces : List Piece) → before ≡ pieces → IsLeadIndexSoFar notes bounds before [] pieces → IsLeadIndex notes (bounds ++ length notes ∷ []) pieces
 last_bound notes [] before pieces all h = absurd (omega (arith, h.count))
@@ -214,10 +280,11 @@ last_bound notes (a ∷ bounds) before pieces all h = record {
   leads = λ n. notes_at_bound notes a bounds n ∙ sym (append-nil _) ∙ h.leads n;
 }
 
-pub lead_index : (notes : List Note) (bounds new_bounds : List ℕ) (pieces : List Piece) (i len : ℕ) → length pieces ≤ i → len ≡ length notes → new_bounds ≡ bounds ++ len ∷ [] → IsLeadIndexSoFar notes bounds (take i pieces) (drop i pieces) pieces → IsLeadIndex notes new_bounds pieces
-lead_index notes bounds new_bounds pieces i len all is same h =
+pub lead_index : (notes : List Note) (bounds new_bounds comments : List ℕ) (pieces : List Piece) (len : ℕ) → comments ≡ comment_places 0 pieces → notes ≡ noted pieces comments → bounds ≡ 0 ∷ comments_before 0 pieces → len ≡ length notes → new_bounds ≡ bounds ++ len ∷ [] → IsLeadIndex notes new_bounds pieces
+lead_index notes bounds new_bounds comments pieces len places are before is same =
+    let all : notes ≡ notes_from [] pieces = are ∙ ap (noted pieces) places ∙ noted_all [] pieces in
     subst (λ bs. IsLeadIndex notes bs pieces) (sym (same ∙ ap (λ n. bounds ++ n ∷ []) is))
-    (last_bound notes bounds (take i pieces) pieces (take_all i pieces all) (subst (λ after. IsLeadIndexSoFar notes bounds (take i pieces) after pieces) (drop_all i pieces all) h))
+    (last_bound notes bounds pieces pieces refl (same_so_far _ _ _ _ _ _ pieces (sym all) (sym before) refl (index_all [] (0 ∷ []) [] pieces pieces (none_so_far pieces))))
 
 -- ---- the last gap, told from its end
 pub gap_all : (before : List Piece) (at : ℕ) → at ≤ length before → suffix_len (λ p. not (is_content p.kind)) (take at before) + (length before - at) ≡ suffix_len (λ p. not (is_content p.kind)) before → suffix_len (λ p. not (is_content p.kind)) (take at before) ≡ 0 → drop at before ≡ last_gap before

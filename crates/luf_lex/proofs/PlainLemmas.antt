@@ -5,7 +5,8 @@ use Rattle.std.proofs.lemmas.Bool.{or_left, or_cases, eqb-true, false≢true}
 use Rattle.std.proofs.lemmas.Bool.Decides.{nat_tests}
 use Rattle.std.proofs.lemmas.List.{length-take, length-take-le}
 use Rattle.std.proofs.lemmas.List.Sums.{prefix_len-le-length}
-use Rattle.luf_byte.specs.Class.{is_line_byte, is_letter, is_word_byte, is_blank}
+use Rattle.luf_byte.specs.Class.{is_line_byte, is_letter, is_word_byte, is_blank, is_digit}
+use Rattle.luf_str.specs.Bytes.{is_quote}
 use Rattle.luf_byte.specs.Front.{begins}
 use Rattle.luf_lex.specs.Word.{word_spelling}
 use Rattle.luf_lex.specs.Sign.{sign_spelling, StartsWith}
@@ -112,6 +113,22 @@ sign_spelled (Token (Sign s)) text tried h l b e = (s, h)
 sign_spelled Blank text tried h l b e = absurd (false≢true (sym b ∙ h.first))
 sign_spelled LineEnd text tried h l b e = absurd (false≢true (sym e ∙ line_end_is_line text h))
 sign_spelled _ text tried h l b e = absurd (false≢true tried)
+
+-- what begins with a letter, a blank or a line end is of this group
+front_group : (b : ℕ) (rest : List ℕ) → is_quote b ≡ false → eqb b 91 ≡ false → eqb b 45 ≡ false → is_digit b ≡ false → eqb b 46 ≡ false → group_of (b ∷ rest) ≡ Other
+front_group b rest quote bracket dash digit point = rw (quote, bracket, dash, digit, point) refl
+
+pub letter_group : (text : List ℕ) → begins is_letter text ≡ true → group_of text ≡ Other
+letter_group [] h = absurd (false≢true h)
+letter_group (b ∷ rest) h = front_group b rest (grind (arith, nat_tests)) (grind (arith, nat_tests)) (grind (arith, nat_tests)) (grind (arith, nat_tests)) (grind (arith, nat_tests))
+
+pub blank_group : (text : List ℕ) → begins is_blank text ≡ true → group_of text ≡ Other
+blank_group [] h = absurd (false≢true h)
+blank_group (b ∷ rest) h = front_group b rest (grind (arith, nat_tests)) (grind (arith, nat_tests)) (grind (arith, nat_tests)) (grind (arith, nat_tests)) (grind (arith, nat_tests))
+
+pub line_group : (text : List ℕ) → begins is_line_byte text ≡ true → group_of text ≡ Other
+line_group [] h = absurd (false≢true h)
+line_group (b ∷ rest) h = front_group b rest (grind (arith, nat_tests)) (grind (arith, nat_tests)) (grind (arith, nat_tests)) (grind (arith, nat_tests)) (grind (arith, nat_tests))
 
 -- a first piece of this group
 pub plain_first : (text : List ℕ) (kind : Kind) (n : ℕ) → group_of text ≡ Other → is_tried Other kind ≡ true → 0 < n → n ≤ length text → Spells kind (take n text)

@@ -32,7 +32,7 @@ found pieces None = None
 found pieces (Some i) = slice_get pieces i
 
 -- the tokens are the pieces at their places
-at_seam : {X : Type 0} (front : List X) (x : X) (rest : List X) → slice_get (front ++ x ∷ rest) (length front) ≡ Some x
+pub at_seam : {X : Type 0} (front : List X) (x : X) (rest : List X) → slice_get (front ++ x ∷ rest) (length front) ≡ Some x
 at_seam [] x rest = refl
 at_seam (y ∷ front) x rest = at_seam front x rest
 

@@ -1,13 +1,16 @@
 // The cut of a source into pieces.
-ghost use Rattle.std.specs.Prelude.{◌≡◌, ◌<◌, ◌≤◌, ◌^◌, [], length, IfOk, IfErr, OnOk};
+ghost use Rattle.std.specs.Prelude.{◌≡◌, ◌<◌, ◌≤◌, [], length, IfOk, IfErr, OnOk};
 ghost use Rattle.std.specs.List.{prefix_len};
 ghost use Rattle.luf_byte.specs.Class.{in_line};
 ghost use Rattle.luf_lex.specs.Cut.{IsCut, IsCause, head_of, head_end, mark_length, hash_length};
+ghost use Rattle.luf_lex.specs.inner.Growing.{IsGrown, IsNext, IsFaultAt};
 
-use crate::first::first;
-use crate::{Cut, Kind, LexErr, Piece};
+use crate::first::marked;
+use crate::growing::Growing;
+use crate::plain::{blanks, word};
+use crate::{Cut, Kind, LexErr};
+use luf_byte::{is_blank, is_letter};
 use luf_memory::Memory;
-use luf_text::Span;
 use memchr::memchr2;
 use std::alloc::Global;
 
@@ -21,54 +24,67 @@ pub fn cut(alloc: Global, src: &[u8]) -> Result<Cut, LexErr>
     ensures ok { IfOk result (λ cut. IsCut src.now cut) }
     ensures bad { IfErr result (IsCause src.now) }
 {
-    let mut pieces = Vec::new(alloc);
-    let mut at = push_head(src, &mut pieces)?;
+    let mut growing = Growing::new(alloc)?;
+    let mut at = push_head(src, &mut growing)?;
     while at < src.len() {
-        let (kind, len) = match first(&src[at..]) {
-            Ok(piece) => piece,
-            Err(what) => {
-                return Err(LexErr::Bad {
-                    at: at as u32,
-                    what,
-                });
-            }
-        };
-        pieces.push(piece(kind, at, at + len))?;
-        at += len;
+        at = push_first(src, at, &mut growing)?;
     }
-    Ok(Cut::of(alloc, pieces)?)
+    Ok(growing.finish(alloc)?)
 }
 
-fn piece(kind: Kind, from: usize, to: usize) -> Piece
-    requires from { from < 2 ^ 32 }
-    requires to { to < 2 ^ 32 }
-    ensures { result ≡ record { kind = kind; span = record { from = from; to = to } } }
+/// Puts the first piece of what is left of a source from a place on behind the others, and answers where it ends. What
+/// most pieces begin with is looked for first.
+fn push_first(src: &[u8], at: usize, growing: &mut Growing) -> Result<usize, LexErr>
+    requires inside { at < length src.now }
+    requires short { length src.now ≤ 16777216 }
+    requires few { length growing.old.pieces.items ≤ at }
+    requires grown { IsGrown growing.old.tokens.items growing.old.comments.items growing.old.bounds.items growing.old.pieces.items }
+    ensures next { IfOk result (λ end. IsNext src.now at end growing.old.pieces.items growing.new.pieces.items) }
+    ensures grown { OnOk result (IsGrown growing.new.tokens.items growing.new.comments.items growing.new.bounds.items growing.new.pieces.items) }
+    ensures bad { IfErr result (IsFaultAt src.now at) }
 {
-    Piece {
-        kind,
-        span: Span {
-            from: from as u32,
-            to: to as u32,
-        },
+    let text = &src[at..];
+    let b = text[0];
+    if is_letter(b) {
+        let (tok, len) = word(text);
+        growing.push_token(tok, at, at + len)?;
+        return Ok(at + len);
+    }
+    if is_blank(b) {
+        let len = blanks(text);
+        growing.push_other(Kind::Blank, at, at + len)?;
+        return Ok(at + len);
+    }
+    match marked(text) {
+        Ok((kind, len)) => {
+            growing.push(kind, at, at + len)?;
+            Ok(at + len)
+        }
+        Err(what) => Err(LexErr::Bad {
+            at: at as u32,
+            what,
+        }),
     }
 }
 
 /// Puts a mark and a `#` line at the start of a source, and answers where they end.
-fn push_head(src: &[u8], pieces: &mut Vec<Piece>) -> Result<usize, Memory>
+fn push_head(src: &[u8], growing: &mut Growing) -> Result<usize, Memory>
     requires few { length src.now ≤ 16777216 }
-    requires none { pieces.old.items ≡ [] }
-    ensures pieces { OnOk result (pieces.new.items ≡ head_of src.now) }
+    requires none { growing.old.pieces.items ≡ [] }
+    requires grown { IsGrown growing.old.tokens.items growing.old.comments.items growing.old.bounds.items growing.old.pieces.items }
+    ensures pieces { OnOk result (growing.new.pieces.items ≡ head_of src.now) }
+    ensures grown { OnOk result (IsGrown growing.new.tokens.items growing.new.comments.items growing.new.bounds.items growing.new.pieces.items) }
     ensures end { IfOk result (λ end. end ≡ head_end src.now) }
     ensures within { IfOk result (λ end. end ≤ length src.now) }
-    ensures few { IfOk result (λ end. length pieces.new.items ≤ end) }
+    ensures few { IfOk result (λ end. length growing.new.pieces.items ≤ end) }
 {
     let mark = mark_len(src);
     let end = head_len(src);
     if mark != 0 {
-        pieces.push(piece(Kind::Mark, 0, mark))?;
+        growing.push_other(Kind::Mark, 0, mark)?;
     }
     if end != mark {
-        pieces.push(piece(Kind::HashLine, mark, end))?;
+        growing.push_other(Kind::HashLine, mark, end)?;
     }
     Ok(end)
 }

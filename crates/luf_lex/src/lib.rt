@@ -6,6 +6,7 @@ mod cutting;
 mod fault;
 mod first;
 mod group;
+mod growing;
 mod laws;
 mod note;
 mod numeral;

@@ -1,9 +1,10 @@
 // The comments between the tokens of a source, with an index, and the empty lines before them.
-ghost use Rattle.std.specs.Prelude.{◌≡◌, ◌+◌, ◌<◌, ◌≤◌, length, IfOk};
+ghost use Rattle.std.specs.Prelude.{◌≡◌, ◌+◌, ◌<◌, ◌≤◌, ◌∷◌, length, IfOk};
 ghost use Rattle.luf_lex.specs.Note as notes;
 ghost use Rattle.luf_lex.specs.inner.Leads.{notes_at, IsRising, IsLeadIndex};
+ghost use Rattle.luf_lex.specs.inner.Growing.{comment_places, comments_before};
 
-use crate::{Kind, Piece, Span};
+use crate::{Piece, Span};
 use luf_memory::Memory;
 use std::alloc::Global;
 
@@ -29,22 +30,23 @@ pub(crate) struct Leads {
 }
 
 impl Leads {
-    /// The comments of these pieces. The only error is that no memory was found.
-    pub(crate) fn of(alloc: Global, pieces: &[Piece]) -> Result<Leads, Memory>
-        requires { length pieces.now ≤ 16777216 }
+    /// The comments at these places of some pieces, where so many stand before each token. The only error is that no
+    /// memory was found.
+    pub(crate) fn of(
+        alloc: Global,
+        pieces: &[Piece],
+        comments: &[u32],
+        mut bounds: Vec<u32>,
+    ) -> Result<Leads, Memory>
+        requires few { length pieces.now ≤ 16777216 }
+        requires comments { comments.now ≡ comment_places 0 pieces.now }
+        requires bounds { bounds.items ≡ 0 ∷ comments_before 0 pieces.now }
         ensures { IfOk result (λ leads. IsLeadIndex leads.notes.items leads.bounds.items pieces.now) }
     {
         let mut notes = Vec::new(alloc);
-        let mut bounds = Vec::new(alloc);
-        bounds.push(0)?;
-        for (place, piece) in pieces.iter().enumerate() {
-            match piece.kind {
-                Kind::Token(_) => bounds.push(notes.len() as u32)?,
-                Kind::Comment => {
-                    notes.push(note_of(&pieces[..place], *piece, &pieces[place + 1..]))?
-                }
-                _ => {}
-            }
+        for place in comments {
+            let place = *place as usize;
+            notes.push(note_of(&pieces[..place], pieces[place], &pieces[place + 1..]))?;
         }
         bounds.push(notes.len() as u32)?;
         Ok(Leads { notes, bounds })

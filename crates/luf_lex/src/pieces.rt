@@ -9,8 +9,6 @@ ghost use Rattle.luf_lex.specs.inner.TokenIndex.{IsTokenIndex};
 
 use crate::note::{Leads, has_empty_line};
 use crate::{Kind, Note, Piece, Span, Tok};
-use luf_memory::Memory;
-use std::alloc::Global;
 use std::marker::Model;
 
 /// The pieces of a source, in order. A contract sees it as their list.
@@ -37,18 +35,17 @@ impl Model for Cut {
 }
 
 impl Cut {
-    /// The pieces with their index. The only error is that no memory was found.
-    pub(crate) fn of(alloc: Global, pieces: Vec<Piece>) -> Result<Cut, Memory>
-        requires { length pieces.items ≤ 16777216 }
-        ensures { IfOk result (λ cut. cut ≡ pieces.items) }
+    /// The pieces with their index.
+    pub(crate) fn of(pieces: Vec<Piece>, tokens: Vec<u32>, leads: Leads) -> Cut
+        requires tokens { IsTokenIndex tokens.items pieces.items }
+        requires leads { IsLeadIndex leads.notes.items leads.bounds.items pieces.items }
+        ensures { result ≡ pieces.items }
     {
-        let tokens = token_index(alloc, pieces.as_slice())?;
-        let leads = Leads::of(alloc, pieces.as_slice())?;
-        Ok(Cut {
+        Cut {
             pieces,
             tokens,
             leads,
-        })
+        }
     }
 
     /// The pieces, in order.
@@ -144,18 +141,4 @@ impl Cut {
             None
         }
     }
-}
-
-/// The places of the tokens among the pieces.
-fn token_index(alloc: Global, pieces: &[Piece]) -> Result<Vec<u32>, Memory>
-    requires { length pieces.now ≤ 16777216 }
-    ensures { IfOk result (λ tokens. tokens.items ≡ token_places 0 pieces.now) }
-{
-    let mut tokens = Vec::new(alloc);
-    for (place, piece) in pieces.iter().enumerate() {
-        if piece.kind.is_token() {
-            tokens.push(place as u32)?;
-        }
-    }
-    Ok(tokens)
 }

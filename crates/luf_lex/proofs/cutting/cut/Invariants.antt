@@ -1,5 +1,6 @@
 use Rattle.std.proofs.Common.{◌≡◌, ◌-◌, ◌≤◌, ◌++◌, List, length}
 use Rattle.luf_lex.specs.Cut.{Cuts, head_of, head_end}
+use Rattle.luf_lex.specs.inner.Growing.{IsGrown}
 use Rattle.luf_lex.specs.declared.token.Piece.{Piece}
 use Rattle.luf_lex.proofs.cutting.cut.Given as goal
 
@@ -7,10 +8,11 @@ use Rattle.luf_lex.proofs.cutting.cut.Given as goal
 abbrev pub invariant-loop-at : goal.invariant-loop-at
 invariant-loop-at l = record {
   rest : List Piece;
-  pieces : l.pieces.items ≡ head_of l.src ++ rest;
+  pieces : l.growing.pieces.items ≡ head_of l.src ++ rest;
   cut : Cuts l.src (head_end l.src) rest l.at;
   within : l.at ≤ length l.src;
-  few : length l.pieces.items ≤ l.at;
+  few : length l.growing.pieces.items ≤ l.at;
+  grown : IsGrown l.growing.tokens.items l.growing.comments.items l.growing.bounds.items l.growing.pieces.items;
 }
 
 abbrev pub decreases-loop-at : goal.decreases-loop-at

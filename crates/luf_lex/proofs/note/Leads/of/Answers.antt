@@ -1,15 +1,38 @@
-use Rattle.std.proofs.Common.{ap, ◌∙◌, arith}
-use Rattle.luf_lex.proofs.NoteLemmas.{comment_step, token_step, other_step, lead_index}
+use Rattle.std.proofs.Common.{◌≡◌, ◌∙◌, ap, length, get_or, arith}
+use Rattle.std.proofs.lemmas.List.{length-take-le, take_all}
+use Rattle.luf_lex.proofs.GrowingLemmas.{comment_inside, few_comments}
+use Rattle.luf_lex.proofs.NoteLemmas.{noted, noted_more, noted_few, lead_index}
 use Rattle.luf_lex.proofs.note.Leads.of.Goals as goal
-use Rattle.luf_lex.proofs.note.Leads.of.Goals.{in-Token+in_ok-push-in-Token, in-Comment+in_ok-push-in-Comment, in_default}
+
+pub slice_bounds-note_of-end : goal.slice_bounds-note_of-end
+slice_bounds-note_of-end c =
+    let inside = comment_inside c.args.comments.now c.args.pieces.now c.loop-place.place-index c.requires.comments c.loop-place-test.true in
+    omega (arith, inside, length-take-le (get_or c.args.comments.now c.loop-place.place-index 0) c.args.pieces.now (omega (arith, inside)))
+
+pub bounds-pieces-place : goal.bounds-pieces-place
+bounds-pieces-place c = comment_inside c.args.comments.now c.args.pieces.now c.loop-place.place-index c.requires.comments c.loop-place-test.true
+
+pub slice_bounds-note_of-count : goal.slice_bounds-note_of-count
+slice_bounds-note_of-count c = omega (arith, comment_inside c.args.comments.now c.args.pieces.now c.loop-place.place-index c.requires.comments c.loop-place-test.true)
+
+pub slice_bounds-note_of-start : goal.slice_bounds-note_of-start
+slice_bounds-note_of-start c = omega (arith, comment_inside c.args.comments.now c.args.pieces.now c.loop-place.place-index c.requires.comments c.loop-place-test.true)
 
 pub loop-place-preserved : goal.loop-place-preserved
 loop-place-preserved c =
-    elim c.match-piece.branch [
-      | in-Token+in_ok-push-in-Token w ↦ token_step c.loop-place.notes.items _ c.loop-place.bounds.items _ c.args.pieces.now c.loop-place.place _ _ w.len.result c.loop-place-test.true w.in-Token.is (ap (λ v. v.items) w.notes-is) (omega arith) (ap (λ v. v.items) w.bounds-is ∙ w.in_ok-push-in-Token.ensures.items) c.loop-place.invariant
-      | in-Comment+in_ok-push-in-Comment w ↦ comment_step c.loop-place.notes.items _ c.loop-place.bounds.items _ c.args.pieces.now c.loop-place.place _ w.note_of.result c.loop-place-test.true w.in-Comment.is w.note_of.ensures (ap (λ v. v.items) w.notes-is ∙ w.in_ok-push-in-Comment.ensures.items) (ap (λ v. v.items) w.bounds-is) c.loop-place.invariant
-      | in_default w ↦ other_step c.loop-place.notes.items _ c.loop-place.bounds.items _ c.args.pieces.now c.loop-place.place _ c.loop-place-test.true w.in_default.not-Comment w.in_default.not-Token (ap (λ v. v.items) w.notes-is) (ap (λ v. v.items) w.bounds-is) c.loop-place.invariant
-    ]
+    noted_more c.args.pieces.now c.args.comments.now c.loop-place.place-index _ c.note_of.result _ _ c.loop-place-test.true
+    (comment_inside c.args.comments.now c.args.pieces.now c.loop-place.place-index c.requires.comments c.loop-place-test.true)
+    c.note_of.ensures c.in_ok-push.ensures.items c.loop-place.invariant
+
+pub overflow_cast-len : goal.overflow_cast-len
+overflow_cast-len c =
+    let comments = c.args.comments.now in
+    let all : c.loop-place.notes.items ≡ noted c.args.pieces.now comments = c.loop-place.invariant ∙ ap (noted c.args.pieces.now) (take_all c.loop-place.place-index comments (omega arith)) in
+    omega (arith, ap length all, noted_few c.args.pieces.now comments, ap length c.requires.comments, few_comments 0 c.args.pieces.now, c.requires.few, c.len.ensures)
 
 pub returns : goal.returns
-returns c = lead_index c.loop-place.notes.items c.loop-place.bounds.items _ c.args.pieces.now c.loop-place.place c.len-2.result (omega arith) (omega arith) c.in_ok-push-2.ensures.items c.loop-place.invariant
+returns c =
+    let comments = c.args.comments.now in
+    lead_index c.loop-place.notes.items c.args.bounds.items _ comments c.args.pieces.now c.len.result c.requires.comments
+    (c.loop-place.invariant ∙ ap (noted c.args.pieces.now) (take_all c.loop-place.place-index comments (omega arith)))
+    c.requires.bounds (omega (arith, c.len.ensures)) c.in_ok-push-2.ensures.items

@@ -1,0 +1,39 @@
+-- What is kept of the pieces of a source while it is cut.
+use Rattle.std.specs.Prelude.{◌≡◌, ℕ, ◌+◌, ◌-◌, List, [], ◌∷◌, ◌++◌, drop, if◌then◌else◌, ⊤}
+use Rattle.luf_lex.specs.First.{IsFirst, IsFault}
+use Rattle.luf_lex.specs.Note.{is_comment}
+use Rattle.luf_lex.specs.Tokens.{is_token, token_places}
+use Rattle.luf_lex.specs.declared.fault.LexErr.{LexErr}
+use Rattle.luf_lex.specs.declared.fault.LexErr.TheVariants.{Bad, Memory}
+use Rattle.luf_lex.specs.declared.token.Kind.{Kind}
+use Rattle.luf_lex.specs.declared.token.Piece.{Piece}
+
+-- where the comments stand among the pieces, the first of which has this place
+abbrev pub comment_places : ℕ → List Piece → List ℕ
+comment_places at [] = []
+comment_places at (p ∷ pieces) = if is_comment p.kind then at ∷ comment_places (at + 1) pieces else comment_places (at + 1) pieces
+
+-- how many comments stand before each token, where so many stand before the pieces
+abbrev pub comments_before : ℕ → List Piece → List ℕ
+comments_before count [] = []
+comments_before count (p ∷ pieces) =
+    if is_token p.kind then count ∷ comments_before count pieces
+    else if is_comment p.kind then comments_before (count + 1) pieces
+    else comments_before count pieces
+
+-- the places of the tokens and of the comments of these pieces, and how many comments stand before each token, behind a 0
+pub record IsGrown (tokens comments bounds : List ℕ) (pieces : List Piece) : Type 0 where
+  pub tokens_at : tokens ≡ token_places 0 pieces
+  pub comments_at : comments ≡ comment_places 0 pieces
+  pub before : bounds ≡ 0 ∷ comments_before 0 pieces
+
+-- one more piece, which is the first of what is left of a source from a place on
+pub record IsNext (source : List ℕ) (at end : ℕ) (old new : List Piece) : Type 0 where
+  pub kind : Kind
+  pub pieces : new ≡ old ++ record { kind = kind; span = record { from = at; to = end } } ∷ []
+  pub first : IsFirst (drop at source) kind (end - at)
+
+-- what is left of a source from a place on has no first piece
+abbrev pub IsFaultAt : List ℕ → ℕ → LexErr → Type 0
+IsFaultAt source at (Bad place what) = (place ≡ at) × IsFault (drop at source) what
+IsFaultAt source at Memory = ⊤
