@@ -5,7 +5,10 @@ use sqlite_items::Items;
 use std::alloc::{AllocError, Global};
 use std::marker::Model;
 
-/// A list of the tree while it is read. Most have one item: it first takes room for one alone.
+/// Up to so many items a list takes room for one more alone.
+const FEW: usize = 4;
+
+/// A list of the tree while it is read. Most have one item or two: at first it takes room for one more at a time.
 #[derive(Debug, Drop)]
 pub struct Growing<T> {
     items: Vec<T>,
@@ -37,7 +40,7 @@ impl<T: Drop> Growing<T> {
         ensures ok { OnOk result (self.new ≡ self.old ++ item ∷ []) }
         ensures err { OnErr result (self.new ≡ self.old) }
     {
-        if self.items.capacity() == 0 {
+        if self.items.len() < FEW {
             self.items.reserve_exact(1)?;
         }
         self.items.push(item)?;
