@@ -9,6 +9,7 @@ pub mod StringLemmas
 pub mod CommentLemmas
 pub mod FaultLaws
 pub mod NoteLemmas
+pub mod FilledLemmas
 pub mod GrowingLemmas
 pub mod OneCut
 pub mod WholeCut

@@ -1,5 +1,5 @@
 -- The cut of a source into pieces, and its lexical fault.
-use Rattle.std.specs.Prelude.{◌≡◌, ℕ, ◌+◌, ◌-◌, ◌<◌, ◌≤◌, ◌==◌, List, [], ◌∷◌, ◌++◌, length, drop, if◌then◌else◌, nat_eq}
+use Rattle.std.specs.Prelude.{◌≡◌, ℕ, ◌+◌, ◌-◌, ◌<◌, ◌≤◌, ◌==◌, Option, None, Some, List, [], ◌∷◌, ◌++◌, length, drop, slice_range, if◌then◌else◌, nat_eq}
 use Rattle.std.specs.List.{prefix_len, starts_with}
 use Rattle.std.specs.Str.{byte}
 use Rattle.luf_byte.specs.Class.{in_line}
@@ -29,6 +29,10 @@ abbrev pub head_of : List ℕ → List Piece
 head_of source =
     (if mark_length source == 0 then [] else record { kind = Mark; span = record { from = 0; to = mark_length source } } ∷ [])
     ++ (if head_end source == mark_length source then [] else record { kind = HashLine; span = record { from = mark_length source; to = head_end source } } ∷ [])
+
+-- a first line that begins with `#`, without its line end
+abbrev pub hash_line_of : List ℕ → Option (List ℕ)
+hash_line_of source = if head_end source == mark_length source then None else Some (slice_range source (mark_length source) (head_end source))
 
 -- these pieces, one after another, are the bytes of a source from one place to another
 abbrev pub Cuts : List ℕ → ℕ → List Piece → ℕ → Type 0

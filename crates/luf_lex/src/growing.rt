@@ -1,7 +1,8 @@
-// The pieces of a source while it is cut, with the places of its tokens and comments among them.
+// The pieces of a source but its blanks while it is cut, with the places of its tokens and comments among them.
 ghost use Rattle.std.specs.Prelude.{◌≡◌, ◌<◌, ◌≤◌, ◌^◌, false, [], ◌∷◌, ◌++◌, length, IfOk, OnOk};
 ghost use Rattle.luf_lex.specs.Note.{is_comment};
 ghost use Rattle.luf_lex.specs.Tokens.{is_token};
+ghost use Rattle.luf_lex.specs.inner.Filled.{filled};
 ghost use Rattle.luf_lex.specs.inner.Growing.{IsGrown};
 
 use crate::note::Leads;
@@ -10,7 +11,7 @@ use luf_memory::Memory;
 use luf_text::Span;
 use std::alloc::Global;
 
-/// The first pieces of a source, in order.
+/// The first pieces of a source but the blanks, in order.
 #[derive(Drop)]
 pub(crate) struct Growing {
     pub pieces: Vec<Piece>,
@@ -97,11 +98,12 @@ impl Growing {
         Ok(())
     }
 
-    /// The pieces with their index.
-    pub(crate) fn finish(self, alloc: Global) -> Result<Cut, Memory>
+    /// The pieces with their index, and the blanks between them and up to the end of the source.
+    pub(crate) fn finish(self, alloc: Global, end: usize) -> Result<Cut, Memory>
         requires few { length self.pieces.items ≤ 16777216 }
+        requires end { end < 2 ^ 32 }
         requires grown { IsGrown self.tokens.items self.comments.items self.bounds.items self.pieces.items }
-        ensures { IfOk result (λ cut. cut ≡ self.pieces.items) }
+        ensures { IfOk result (λ cut. cut ≡ filled 0 self.pieces.items end) }
     {
         let Growing {
             pieces,
@@ -110,7 +112,7 @@ impl Growing {
             bounds,
         } = self;
         let leads = Leads::of(alloc, pieces.as_slice(), comments.as_slice(), bounds)?;
-        Ok(Cut::of(pieces, tokens, leads))
+        Ok(Cut::of(pieces, tokens, leads, end as u32))
     }
 }
 

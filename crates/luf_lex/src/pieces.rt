@@ -1,23 +1,29 @@
 // The pieces of a source, with an index of the tokens and the comments among them.
-ghost use Rattle.std.specs.Prelude.{◌≡◌, ◌≤◌, ◌↔◌, length, slice_get, slice_index_or, IfOk, IsTrue};
+ghost use Rattle.std.specs.Prelude.{◌≡◌, ◌≤◌, ◌↔◌, ◌++◌, ◌∷◌, [], length, slice_get, slice_index_or, IfOk, OnOk, IsTrue};
 ghost use Rattle.std.specs.Option.{option_copied};
 ghost use Rattle.luf_lex.specs.Cut.{IsCut};
+ghost use Rattle.luf_lex.specs.inner.Filled.{blank_between, filled};
 ghost use Rattle.luf_lex.specs.inner.Leads.{IsLeadIndex};
 ghost use Rattle.luf_lex.specs.Note.{lead_of, blank_of};
-ghost use Rattle.luf_lex.specs.Tokens.{toks_of, spans_of, spellings_of, tokens_of, token_places};
+ghost use Rattle.luf_lex.specs.Tokens.{toks_of, spans_of, spellings_of, tokens_of};
 ghost use Rattle.luf_lex.specs.inner.TokenIndex.{IsTokenIndex};
 
 use crate::note::{Leads, has_empty_line};
 use crate::{Kind, Note, Piece, Span, Tok};
+use luf_memory::Memory;
+use std::alloc::Global;
 use std::marker::Model;
 
 /// The pieces of a source, in order. A contract sees it as their list.
 #[derive(Debug, Drop)]
 pub struct Cut {
-    pieces: Vec<Piece>,
-    /// The places of the tokens among the pieces.
+    /// All but the blanks, which lie where no other piece does.
+    solid: Vec<Piece>,
+    /// The places of the tokens among them.
     tokens: Vec<u32>,
     leads: Leads,
+    /// Where the source ends.
+    end: u32,
 }
 
 impl Model for Cut {
@@ -26,33 +32,42 @@ impl Model for Cut {
 
     ghost Value = { List Piece };
 
+    ghost use Rattle.luf_lex.specs.inner.Filled.{filled};
     ghost use Rattle.luf_lex.specs.inner.Leads.{IsLeadIndex};
     ghost use Rattle.luf_lex.specs.inner.TokenIndex.{IsTokenIndex};
 
-    ghost view = { λ c. c.pieces.items };
+    ghost view = { λ c. filled 0 c.solid.items c.end };
 
-    ghost invariant = { λ c. (IsTokenIndex c.tokens.items c.pieces.items) × IsLeadIndex c.leads.notes.items c.leads.bounds.items c.pieces.items };
+    ghost invariant = { λ c. (IsTokenIndex c.tokens.items c.solid.items) × IsLeadIndex c.leads.notes.items c.leads.bounds.items c.solid.items };
 }
 
 impl Cut {
     /// The pieces with their index.
-    pub(crate) fn of(pieces: Vec<Piece>, tokens: Vec<u32>, leads: Leads) -> Cut
-        requires tokens { IsTokenIndex tokens.items pieces.items }
-        requires leads { IsLeadIndex leads.notes.items leads.bounds.items pieces.items }
-        ensures { result ≡ pieces.items }
+    pub(crate) fn of(solid: Vec<Piece>, tokens: Vec<u32>, leads: Leads, end: u32) -> Cut
+        requires tokens { IsTokenIndex tokens.items solid.items }
+        requires leads { IsLeadIndex leads.notes.items leads.bounds.items solid.items }
+        ensures { result ≡ filled 0 solid.items end }
     {
         Cut {
-            pieces,
+            solid,
             tokens,
             leads,
+            end,
         }
     }
 
-    /// The pieces, in order.
-    pub fn pieces(&self) -> &[Piece]
-        ensures { result.now ≡ self.now }
+    /// The pieces, in order, in a list that is made anew. The only error is that no memory was found.
+    pub fn pieces(&self, alloc: Global) -> Result<Vec<Piece>, Memory>
+        ensures { IfOk result (λ pieces. pieces.items ≡ self.now) }
     {
-        self.pieces.as_slice()
+        let mut pieces = Vec::new(alloc);
+        let mut at = 0;
+        for piece in self.solid.as_slice() {
+            push_behind(at, *piece, &mut pieces)?;
+            at = piece.span.to;
+        }
+        push_blank(at, self.end, &mut pieces)?;
+        Ok(pieces)
     }
 
     /// How many tokens there are.
@@ -114,20 +129,7 @@ impl Cut {
         requires { n ≤ length (toks_of self.now) }
         ensures { result ≡ blank_of self.now n }
     {
-        has_empty_line(&self.pieces[..self.place_of(n)])
-    }
-
-    /// The place of token `n` among the pieces; their number from `tokens` on.
-    fn place_of(&self, n: u32) -> usize
-        ensures place { result ≡ slice_index_or (token_places 0 self.now) n (length self.now) }
-        ensures within { result ≤ length self.now }
-    {
-        let n = n as usize;
-        if n < self.tokens.len() {
-            self.tokens[n] as usize
-        } else {
-            self.pieces.len()
-        }
+        has_empty_line(&self.solid[..place_of(self.tokens.as_slice(), n, self.solid.len())])
     }
 
     fn piece_of(&self, n: u32) -> Option<Piece>
@@ -136,9 +138,40 @@ impl Cut {
         let n = n as usize;
         if n < self.tokens.len() {
             let place = self.tokens[n] as usize;
-            Some(self.pieces[place])
+            Some(self.solid[place])
         } else {
             None
         }
     }
+}
+
+/// The place of token `n`, where these are the places of all; an end, where there are not so many.
+fn place_of(places: &[u32], n: u32, end: usize) -> usize
+    ensures { result ≡ slice_index_or places.now n end }
+{
+    match places.get(n as usize) {
+        Some(place) => *place as usize,
+        None => end,
+    }
+}
+
+/// Puts a piece behind the others, which end at a place, and the blanks between before it.
+fn push_behind(at: u32, piece: Piece, pieces: &mut Vec<Piece>) -> Result<(), Memory>
+    ensures { OnOk result (pieces.new.items ≡ pieces.old.items ++ (blank_between at piece.span.from ++ piece ∷ [])) }
+{
+    push_blank(at, piece.span.from, pieces)?;
+    pieces.push(piece)?;
+    Ok(())
+}
+
+/// Puts the blanks from one place to another behind the other pieces.
+fn push_blank(from: u32, to: u32, pieces: &mut Vec<Piece>) -> Result<(), Memory>
+    ensures { OnOk result (pieces.new.items ≡ pieces.old.items ++ blank_between from to) }
+{
+    if from != to {
+        let span = Span { from, to };
+        let kind = Kind::Blank;
+        pieces.push(Piece { kind, span })?;
+    }
+    Ok(())
 }

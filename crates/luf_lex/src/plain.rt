@@ -32,15 +32,9 @@ fn word_run(text: &[u8]) -> usize
 }
 
 /// The length of the blanks that a text begins with.
-pub(crate) fn blanks(text: &[u8]) -> usize
-    requires { begins class.is_blank text.now ≡ true }
-    ensures { IsFirst text.now Kind.Blank result }
-{
-    blank_run(text)
-}
-
-fn blank_run(text: &[u8]) -> usize
-    ensures { result ≡ prefix_len class.is_blank text.now }
+pub(crate) fn blank_run(text: &[u8]) -> usize
+    ensures run { result ≡ prefix_len class.is_blank text.now }
+    ensures within { result ≤ length text.now }
 {
     text.iter().take_while(|b| is_blank(**b)).count()
 }

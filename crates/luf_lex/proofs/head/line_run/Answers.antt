@@ -1,6 +1,6 @@
 use Rattle.std.proofs.Common.{ℕ, List, length, arith}
 use Rattle.luf_lex.proofs.CommentLemmas.{all_in_line, not_all_in_line, line_run}
-use Rattle.luf_lex.proofs.cutting.line_run.Goals as goal
+use Rattle.luf_lex.proofs.head.line_run.Goals as goal
 
 pub returns-in-Some-clause-run : goal.returns-in-Some-clause-run
 returns-in-Some-clause-run c =
