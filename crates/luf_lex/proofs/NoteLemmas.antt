@@ -1,221 +1,25 @@
--- The index of the comments of a cut.
-use Rattle.std.proofs.Common.{◌≡◌, ℕ, zero, suc, ◌+◌, ◌-◌, ◌<◌, ◌≤◌, ◌⊎◌, inl, inr, Option, None, Some, Bool, true, false, not, ◌==◌, cond, List, [], ◌∷◌, ◌++◌, length, take, drop, get_or, refl, sym, ap, ◌∙◌, subst, arith, append_assoc, append-nil, length-append, length-drop, add-one}
-use Rattle.std.proofs.Math.Dec.{eqb-zero-suc, eqb-suc-zero, eqb-suc-suc}
+-- The comments of a cut, by their places, and the last gap.
+use Rattle.std.proofs.Common.{◌≡◌, ℕ, zero, suc, ◌+◌, ◌-◌, ◌<◌, ◌≤◌, Option, Some, Bool, true, false, not, ◌&&◌, ◌==◌, ltb, leb, cond, List, [], ◌∷◌, ◌++◌, length, take, drop, get_or, refl, sym, ap, ◌∙◌, subst, arith, append_assoc, append-nil, length-append, length-drop, add-one, ltb-true, ltb-false, leb-true, lt-ltb, le-ltb, le-leb, eq-eqb, ne_eqb}
 use Rattle.std.specs.Prelude.{slice_range, slice_get}
 use Rattle.std.specs.Option.{option_to_list, option_map}
 use Rattle.std.specs.List.{suffix_len}
-use Rattle.std.proofs.Math.Seq.{take-length, drop-length, take-append_seam, drop-append-add}
-use Rattle.std.proofs.lemmas.List.{drop-append-le, take-append-le, take_more, get_or_default}
-use Rattle.std.proofs.lemmas.Bool.{cond-true, cond-false}
+use Rattle.std.specs.List.Sorted.{IsNonDecreasingBy, IsPartitionPoint}
+use Rattle.std.proofs.Math.Seq.{take-length, take-append_seam, drop-append-add}
+use Rattle.std.proofs.lemmas.Bool.{lt-leb}
+use Rattle.std.proofs.lemmas.List.{take_more}
 use Rattle.std.proofs.lemmas.Option.{slice_get-get_or}
-use Rattle.luf_lex.specs.inner.Leads.{notes_at, IsRising, IsLeadIndex}
-use Rattle.luf_lex.specs.inner.Growing.{comment_places, comments_before}
+use Rattle.luf_lex.specs.inner.Leads.{notes_from, notes_between, gap_start, IsLeadIndex}
+use Rattle.luf_lex.specs.inner.Growing.{comment_places}
 use Rattle.luf_lex.specs.Note.{is_comment, is_content, note_of, lead_from, lead_of, last_gap}
-use Rattle.luf_lex.specs.Tokens.{is_token, tokens_of}
+use Rattle.luf_lex.specs.Tokens.{is_token, tokens_of, token_places}
 use Rattle.luf_lex.specs.declared.note.Note.{Note}
 use Rattle.luf_lex.specs.declared.token.Kind.{Kind}
 use Rattle.luf_lex.specs.declared.token.Kind.TheVariants.{Token, Comment}
 use Rattle.luf_lex.specs.declared.token.Piece.{Piece}
 use Rattle.luf_lex.specs.declared.token.Tok.{Tok}
-use Rattle.luf_lex.proofs.TokenLemmas.{length_tokens, at_seam}
+use Rattle.luf_lex.proofs.TokenLemmas.{at_seam}
 
--- ---- bounds
-rising_le : (bounds : List ℕ) (end more : ℕ) → end ≤ more → IsRising end bounds → IsRising more bounds
-rising_le [] end more le h = h
-rising_le (a ∷ []) end more le h = omega arith
-rising_le (a ∷ b ∷ bounds) end more le h = (h.0, rising_le (b ∷ bounds) end more le h.1)
-
-rising_push : (bounds : List ℕ) (end : ℕ) → IsRising end bounds → IsRising end (bounds ++ end ∷ [])
-rising_push [] end h = omega arith
-rising_push (a ∷ []) end h = (h, omega arith)
-rising_push (a ∷ b ∷ bounds) end h = (h.0, rising_push (b ∷ bounds) end h.1)
-
--- the first bound is not above the end
-rising_first : (a : ℕ) (bounds : List ℕ) (end : ℕ) → IsRising end (a ∷ bounds) → a ≤ end
-rising_first a [] end h = h
-rising_first a (b ∷ bounds) end h = omega (arith, h.0, rising_first b bounds end h.1)
-
--- bound n and the next
-rising_next : (bounds : List ℕ) (end n : ℕ) → IsRising end bounds → n + 1 < length bounds → (get_or bounds n 0 ≤ get_or bounds (suc n) 0) × (get_or bounds (suc n) 0 ≤ end)
-rising_next [] end n h within = absurd (omega arith)
-rising_next (a ∷ []) end n h within = absurd (omega arith)
-rising_next (a ∷ b ∷ bounds) end zero h within = (h.0, rising_first b bounds end h.1)
-rising_next (a ∷ b ∷ bounds) end (suc n) h within = rising_next (b ∷ bounds) end n h.1 (omega arith)
-
-rising_at : (bounds : List ℕ) (end n : ℕ) → IsRising end bounds → n + 1 < length bounds → (get_or bounds n 0 ≤ get_or bounds (n + 1) 0) × (get_or bounds (n + 1) 0 ≤ end)
-rising_at bounds end n h within = rw add-one (rising_next bounds end n h within)
-
-notes_at_next : (notes : List Note) (bounds : List ℕ) (n : ℕ) → n + 1 < length bounds → notes_at notes bounds n ≡ slice_range notes (get_or bounds n 0) (get_or bounds (suc n) 0)
-notes_at_next notes [] n within = absurd (omega arith)
-notes_at_next notes (a ∷ []) n within = absurd (omega arith)
-notes_at_next notes (a ∷ b ∷ bounds) zero within = refl
-notes_at_next notes (a ∷ b ∷ bounds) (suc n) within = notes_at_next notes (b ∷ bounds) n (omega arith)
-
-notes_at_at : (notes : List Note) (bounds : List ℕ) (n : ℕ) → n + 1 < length bounds → notes_at notes bounds n ≡ slice_range notes (get_or bounds n 0) (get_or bounds (n + 1) 0)
-notes_at_at notes bounds n within = rw add-one (notes_at_next notes bounds n within)
-
--- the same, as the code reads the two
-pub read_rising : (bounds : List ℕ) (end n from to : ℕ) → IsRising end bounds → n + 1 < length bounds → from ≡ get_or bounds n from → to ≡ get_or bounds (n + 1) to → (from ≤ to) × (to ≤ end)
-read_rising bounds end n from to h within is_from is_to =
-    let at = rising_at bounds end n h within in
-    let same_from : get_or bounds n from ≡ get_or bounds n 0 = get_or_default bounds n from 0 (omega arith) in
-    let same_to : get_or bounds (n + 1) to ≡ get_or bounds (n + 1) 0 = get_or_default bounds (n + 1) to 0 within in
-    (omega arith, omega arith)
-
-pub read_notes : (notes : List Note) (bounds : List ℕ) (n from to : ℕ) → n + 1 < length bounds → from ≡ get_or bounds n from → to ≡ get_or bounds (n + 1) to → slice_range notes from to ≡ notes_at notes bounds n
-read_notes notes bounds n from to within is_from is_to =
-    ap (λ i. slice_range notes i to) (is_from ∙ get_or_default bounds n from 0 (omega arith))
-    ∙ ap (λ i. slice_range notes (get_or bounds n 0) i) (is_to ∙ get_or_default bounds (n + 1) to 0 within)
-    ∙ sym (notes_at_at notes bounds n within)
-
--- ---- one more note
-range_push : (notes : List Note) (x : Note) (a b : ℕ) → a ≤ b → b ≤ length notes → slice_range (notes ++ x ∷ []) a b ≡ slice_range notes a b
-range_push notes x a b le within =
-    ap (λ ys. take (b - a) ys) (drop-append-le a notes (x ∷ []) (omega arith))
-    ∙ take-append-le (b - a) (drop a notes) (x ∷ []) (omega (arith, length-drop a notes))
-
-notes_at_note : (notes : List Note) (x : Note) (a : ℕ) (bounds : List ℕ) (n : ℕ) → IsRising (length notes) (a ∷ bounds) → notes_at (notes ++ x ∷ []) (a ∷ bounds) n ≡ notes_at notes (a ∷ bounds) n ++ cond (length bounds == n) (x ∷ []) []
-notes_at_note notes x a [] zero h = drop-append-le a notes (x ∷ []) h
-notes_at_note notes x a [] (suc n) h = ap (λ b. cond b (x ∷ []) []) (sym (eqb-zero-suc n))
-notes_at_note notes x a (b ∷ bounds) zero h = range_push notes x a b h.0 (rising_first b bounds _ h.1) ∙ sym (append-nil _) ∙ ap (λ t. slice_range notes a b ++ cond t (x ∷ []) []) (sym (eqb-suc-zero (length bounds)))
-notes_at_note notes x a (b ∷ bounds) (suc n) h = notes_at_note notes x b bounds n h.1 ∙ ap (λ t. notes_at notes (b ∷ bounds) n ++ cond t (x ∷ []) []) (sym (eqb-suc-suc (length bounds) n))
-
--- ---- one more bound
-after_all : (notes : List Note) (n : ℕ) → notes_at notes (length notes ∷ []) n ≡ []
-after_all notes zero = drop-length notes
-after_all notes (suc n) = refl
-
-all_range : (notes : List Note) (a : ℕ) → slice_range notes a (length notes) ≡ drop a notes
-all_range notes a = ap (λ n. take n (drop a notes)) (sym (length-drop a notes)) ∙ take-length (drop a notes)
-
-notes_at_bound : (notes : List Note) (a : ℕ) (bounds : List ℕ) (n : ℕ) → notes_at notes ((a ∷ bounds) ++ length notes ∷ []) n ≡ notes_at notes (a ∷ bounds) n
-notes_at_bound notes a [] zero = all_range notes a
-notes_at_bound notes a [] (suc n) = after_all notes n
-notes_at_bound notes a (b ∷ bounds) zero = refl
-notes_at_bound notes a (b ∷ bounds) (suc n) = notes_at_bound notes b bounds n
-
--- ---- one more piece
-count_step : (b : Bool) (q : Piece) (n : ℕ) (xs ys : List Piece) → length xs ≡ length ys + n → length (cond b (q ∷ xs) xs) ≡ length (cond b (q ∷ ys) ys) + n
-count_step true q n xs ys e = omega arith
-count_step false q n xs ys e = e
-
-abbrev one : Bool → ℕ
-one true = 1
-one false = 0
-
-count_piece : (before : List Piece) (p : Piece) → length (tokens_of (before ++ p ∷ [])) ≡ length (tokens_of before) + one (is_token p.kind)
-count_piece [] p = by_kind (is_token p.kind)
-  where
-    by_kind : (b : Bool) → length (cond b (p ∷ []) []) ≡ 0 + one b
-    by_kind true = refl
-    by_kind false = refl
-count_piece (q ∷ before) p = count_step (is_token q.kind) q _ _ _ (count_piece before p)
-
--- The comments of the pieces so far are in the index, and those of the rest are to come.
-pub record IsLeadIndexSoFar (notes : List Note) (bounds : List ℕ) (before after pieces : List Piece) : Type 0 where
-  pub rising : IsRising (length notes) bounds
-  pub count : length bounds ≡ length (tokens_of before) + 1
-  pub few : length notes ≤ length before
-  pub leads : (n : ℕ) → notes_at notes bounds n ++ lead_from n before after ≡ lead_of pieces n
-
-none_so_far : (pieces : List Piece) → IsLeadIndexSoFar [] (0 ∷ []) [] pieces pieces
-none_so_far pieces = record { rising = omega arith; count = refl; few = omega arith; leads = from }
-  where
-    from : (n : ℕ) → notes_at [] (0 ∷ []) n ++ lead_from n [] pieces ≡ lead_of pieces n
-    from zero = refl
-    from (suc n) = refl
-
--- what one piece brings to the comments that n tokens stand before
-lead_comment : (n : ℕ) (before : List Piece) (p : Piece) (after : List Piece) → is_comment p.kind ≡ true → lead_from n before (p ∷ after) ≡ cond (length (tokens_of before) == n) (note_of before p after ∷ []) [] ++ lead_from n (before ++ p ∷ []) after
-lead_comment n before p after e = rw e
-
-lead_other : (n : ℕ) (before : List Piece) (p : Piece) (after : List Piece) → is_comment p.kind ≡ false → lead_from n before (p ∷ after) ≡ lead_from n (before ++ p ∷ []) after
-lead_other n before p after e = rw e
-
-with_comment : (notes : List Note) (bounds : List ℕ) (before : List Piece) (p : Piece) (after pieces : List Piece) → IsLeadIndexSoFar notes bounds before (p ∷ after) pieces → is_comment p.kind ≡ true → is_token p.kind ≡ false → IsLeadIndexSoFar (notes ++ note_of before p after ∷ []) bounds (before ++ p ∷ []) after pieces
-with_comment notes [] before p after pieces h e no_token = absurd (omega (arith, h.count))
-with_comment notes (a ∷ bounds) before p after pieces h e no_token =
-    let x : Note = note_of before p after in
-    let same : length bounds ≡ length (tokens_of before) = omega (arith, h.count) in
-    record {
-      rising = rising_le (a ∷ bounds) (length notes) _ (omega (arith, length-append notes (x ∷ []))) h.rising;
-      count = omega (arith, h.count, count_piece before p, ap one no_token);
-      few = omega (arith, h.few, length-append notes (x ∷ []), length-append before (p ∷ []));
-      leads = λ n.
-          ap (λ ys. ys ++ lead_from n (before ++ p ∷ []) after) (notes_at_note notes x a bounds n h.rising)
-          ∙ append_assoc (notes_at notes (a ∷ bounds) n) _ _
-          ∙ ap (λ m. notes_at notes (a ∷ bounds) n ++ (cond (m == n) (x ∷ []) [] ++ lead_from n (before ++ p ∷ []) after)) same
-          ∙ ap (λ ys. notes_at notes (a ∷ bounds) n ++ ys) (sym (lead_comment n before p after e))
-          ∙ h.leads n;
-    }
-
-with_token : (notes : List Note) (bounds : List ℕ) (before : List Piece) (p : Piece) (after pieces : List Piece) → IsLeadIndexSoFar notes bounds before (p ∷ after) pieces → is_comment p.kind ≡ false → is_token p.kind ≡ true → IsLeadIndexSoFar notes (bounds ++ length notes ∷ []) (before ++ p ∷ []) after pieces
-with_token notes [] before p after pieces h no_comment e = absurd (omega (arith, h.count))
-with_token notes (a ∷ bounds) before p after pieces h no_comment e = record {
-  rising = rising_push (a ∷ bounds) (length notes) h.rising;
-  count = omega (arith, h.count, count_piece before p, ap one e, length-append (a ∷ bounds) (length notes ∷ []));
-  few = omega (arith, h.few, length-append before (p ∷ []));
-  leads = λ n.
-      ap (λ ys. ys ++ lead_from n (before ++ p ∷ []) after) (notes_at_bound notes a bounds n)
-      ∙ ap (λ ys. notes_at notes (a ∷ bounds) n ++ ys) (sym (lead_other n before p after no_comment))
-      ∙ h.leads n;
-}
-
-with_other : (notes : List Note) (bounds : List ℕ) (before : List Piece) (p : Piece) (after pieces : List Piece) → IsLeadIndexSoFar notes bounds before (p ∷ after) pieces → is_comment p.kind ≡ false → is_token p.kind ≡ false → IsLeadIndexSoFar notes bounds (before ++ p ∷ []) after pieces
-with_other notes bounds before p after pieces h no_comment no_token = record {
-  rising = h.rising;
-  count = omega (arith, h.count, count_piece before p, ap one no_token);
-  few = omega (arith, h.few, length-append before (p ∷ []));
-  leads = λ n. ap (λ ys. notes_at notes bounds n ++ ys) (sym (lead_other n before p after no_comment)) ∙ h.leads n;
-}
-
--- ---- all pieces, one after another
-kind_cases : (k : Kind) → ((t : Tok) × (k ≡ Token t)) ⊎ ((k ≡ Comment) ⊎ ((is_token k ≡ false) × (is_comment k ≡ false)))
-kind_cases (Token t) = inl (t, refl)
-kind_cases Comment = inr (inl refl)
-kind_cases _ = inr (inr (refl, refl))
-
--- all comments of the later pieces
-abbrev pub notes_from : List Piece → List Piece → List Note
-notes_from before [] = []
-notes_from before (p ∷ after) = cond (is_comment p.kind) (note_of before p after ∷ notes_from (before ++ p ∷ []) after) (notes_from (before ++ p ∷ []) after)
-
-same_so_far : (notes notes' : List Note) (bounds bounds' : List ℕ) (before before' pieces : List Piece) → notes ≡ notes' → bounds ≡ bounds' → before ≡ before' → IsLeadIndexSoFar notes bounds before [] pieces → IsLeadIndexSoFar notes' bounds' before' [] pieces
-same_so_far notes notes' bounds bounds' before before' pieces n b p h =
-    subst (λ x. IsLeadIndexSoFar x bounds' before' [] pieces) n (subst (λ x. IsLeadIndexSoFar notes x before' [] pieces) b (subst (λ x. IsLeadIndexSoFar notes bounds x [] pieces) p h))
-
-index_all : (notes : List Note) (bounds : List ℕ) (before after pieces : List Piece) → IsLeadIndexSoFar notes bounds before after pieces
-    → IsLeadIndexSoFar (notes ++ notes_from before after) (bounds ++ comments_before (length notes) after) (before ++ after) [] pieces
-index_all notes bounds before [] pieces h = same_so_far _ _ _ _ _ _ pieces (sym (append-nil notes)) (sym (append-nil bounds)) (sym (append-nil before)) h
-index_all notes bounds before (p ∷ after) pieces h = by_kind (kind_cases p.kind) (λ ns bs. index_all ns bs (before ++ p ∷ []) after pieces)
-  where
-    by_kind : ((t : Tok) × (p.kind ≡ Token t)) ⊎ ((p.kind ≡ Comment) ⊎ ((is_token p.kind ≡ false) × (is_comment p.kind ≡ false)))
-        → ((ns : List Note) (bs : List ℕ) → IsLeadIndexSoFar ns bs (before ++ p ∷ []) after pieces → IsLeadIndexSoFar (ns ++ notes_from (before ++ p ∷ []) after) (bs ++ comments_before (length ns) after) ((before ++ p ∷ []) ++ after) [] pieces)
-        → IsLeadIndexSoFar (notes ++ notes_from before (p ∷ after)) (bounds ++ comments_before (length notes) (p ∷ after)) (before ++ p ∷ after) [] pieces
-    by_kind (inl (t, e)) later =
-        let token : is_token p.kind ≡ true = ap is_token e in
-        let no_comment : is_comment p.kind ≡ false = ap is_comment e in
-        same_so_far _ _ _ _ _ _ pieces
-        (ap (λ ys. notes ++ ys) (sym (cond-false _ _ _ no_comment)))
-        (append_assoc bounds (length notes ∷ []) (comments_before (length notes) after) ∙ ap (λ ys. bounds ++ ys) (sym (cond-true _ _ _ token)))
-        (append_assoc before (p ∷ []) after)
-        (later notes (bounds ++ length notes ∷ []) (with_token notes bounds before p after pieces h no_comment token))
-    by_kind (inr (inl e)) later =
-        let no_token : is_token p.kind ≡ false = ap is_token e in
-        let comment : is_comment p.kind ≡ true = ap is_comment e in
-        let x : Note = note_of before p after in
-        same_so_far _ _ _ _ _ _ pieces
-        (append_assoc notes (x ∷ []) (notes_from (before ++ p ∷ []) after) ∙ ap (λ ys. notes ++ ys) (sym (cond-true _ _ _ comment)))
-        (ap (λ n. bounds ++ comments_before n after) (length-append notes (x ∷ [])) ∙ ap (λ ys. bounds ++ ys) (sym (cond-false _ _ _ no_token ∙ cond-true _ _ _ comment)))
-        (append_assoc before (p ∷ []) after)
-        (later (notes ++ x ∷ []) bounds (with_comment notes bounds before p after pieces h comment no_token))
-    by_kind (inr (inr e)) later =
-        same_so_far _ _ _ _ _ _ pieces
-        (ap (λ ys. notes ++ ys) (sym (cond-false _ _ _ e.1)))
-        (ap (λ ys. bounds ++ ys) (sym (cond-false _ _ _ e.0 ∙ cond-false _ _ _ e.1)))
-        (append_assoc before (p ∷ []) after)
-        (later notes bounds (with_other notes bounds before p after pieces h e.1 e.0))
-
+-- ---- the notes of the comments
 -- the notes at these places of the pieces
 abbrev pub note_at : List Piece → ℕ → List Note
 note_at pieces i = option_to_list (option_map (λ p. note_of (take i pieces) p (drop (i + 1) pieces)) (slice_get pieces i))
@@ -264,27 +68,232 @@ noted_more pieces places k d x old new within inside is next so_far =
     ∙ sym (noted_push pieces (take k places) (get_or places k 0))
     ∙ ap (noted pieces) (sym (take_more places k 0 within))
 
-option_few : (o : Option Note) → length (option_to_list o) ≤ 1
-option_few None = omega arith
-option_few (Some x) = omega arith
+pub noted_notes : (notes : List Note) (places : List ℕ) (pieces : List Piece) → places ≡ comment_places 0 pieces → notes ≡ noted pieces places → notes ≡ notes_from [] pieces
+noted_notes notes places pieces at are = are ∙ ap (noted pieces) at ∙ noted_all [] pieces
 
-pub noted_few : (pieces : List Piece) (places : List ℕ) → length (noted pieces places) ≤ length places
-noted_few pieces [] = omega arith
-noted_few pieces (i ∷ places) = omega (arith, length-append (note_at pieces i) (noted pieces places), noted_few pieces places, option_few (option_map (λ p. note_of (take i pieces) p (drop (i + 1) pieces)) (slice_get pieces i)))
+-- ---- there are as many as places, and these rise
+count_notes_step : (b : Bool) (x : Note) (i : ℕ) (notes : List Note) (places : List ℕ) → length notes ≡ length places → length (cond b (x ∷ notes) notes) ≡ length (cond b (i ∷ places) places)
+count_notes_step true x i notes places e = ap suc e
+count_notes_step false x i notes places e = e
 
-last_bound : (notes : List Note) (bounds : List ℕ) (before pieces : List Piece) → before ≡ pieces → IsLeadIndexSoFar notes bounds before [] pieces → IsLeadIndex notes (bounds ++ length notes ∷ []) pieces
-last_bound notes [] before pieces all h = absurd (omega (arith, h.count))
-last_bound notes (a ∷ bounds) before pieces all h = record {
-  rising = rising_push (a ∷ bounds) (length notes) h.rising;
-  count = omega (arith, h.count, length_tokens pieces, ap (λ ps. length (tokens_of ps)) all, length-append (a ∷ bounds) (length notes ∷ []));
-  leads = λ n. notes_at_bound notes a bounds n ∙ sym (append-nil _) ∙ h.leads n;
-}
+count_notes : (before after : List Piece) (at : ℕ) → length (notes_from before after) ≡ length (comment_places at after)
+count_notes before [] at = refl
+count_notes before (p ∷ after) at = count_notes_step (is_comment p.kind) _ at _ _ (count_notes (before ++ p ∷ []) after (at + 1))
 
-pub lead_index : (notes : List Note) (bounds new_bounds comments : List ℕ) (pieces : List Piece) (len : ℕ) → comments ≡ comment_places 0 pieces → notes ≡ noted pieces comments → bounds ≡ 0 ∷ comments_before 0 pieces → len ≡ length notes → new_bounds ≡ bounds ++ len ∷ [] → IsLeadIndex notes new_bounds pieces
-lead_index notes bounds new_bounds comments pieces len places are before is same =
-    let all : notes ≡ notes_from [] pieces = are ∙ ap (noted pieces) places ∙ noted_all [] pieces in
-    subst (λ bs. IsLeadIndex notes bs pieces) (sym (same ∙ ap (λ n. bounds ++ n ∷ []) is))
-    (last_bound notes bounds pieces pieces refl (same_so_far _ _ _ _ _ _ pieces (sym all) (sym before) refl (index_all [] (0 ∷ []) [] pieces pieces (none_so_far pieces))))
+pub lead_count : (notes : List Note) (places : List ℕ) (pieces : List Piece) → IsLeadIndex notes places pieces → length notes ≡ length places
+lead_count notes places pieces h = ap length h.notes_at ∙ count_notes [] pieces 0 ∙ sym (ap length h.places_at)
+
+from_step : (b : Bool) (at : ℕ) (places : List ℕ) → ((k d : ℕ) → k < length places → at + 1 ≤ get_or places k d) → (k d : ℕ) → k < length (cond b (at ∷ places) places) → at ≤ get_or (cond b (at ∷ places) places) k d
+from_step true at places later zero d within = omega arith
+from_step true at places later (suc k) d within = omega (arith, later k d (omega arith))
+from_step false at places later k d within = omega (arith, later k d within)
+
+places_from : (pieces : List Piece) (at k d : ℕ) → k < length (comment_places at pieces) → at ≤ get_or (comment_places at pieces) k d
+places_from [] at k d within = absurd (omega arith)
+places_from (p ∷ pieces) at k d within = from_step (is_comment p.kind) at (comment_places (at + 1) pieces) (places_from pieces (at + 1)) k d within
+
+rise_step : (b : Bool) (at : ℕ) (places : List ℕ) → ((k d : ℕ) → k < length places → at + 1 ≤ get_or places k d) → IsNonDecreasingBy (λ (i : ℕ). i) places → IsNonDecreasingBy (λ (i : ℕ). i) (cond b (at ∷ places) places)
+rise_step true at places above later zero zero d le within = omega arith
+rise_step true at places above later zero (suc j) d le within = omega (arith, above j d (omega arith))
+rise_step true at places above later (suc i) zero d le within = absurd (omega arith)
+rise_step true at places above later (suc i) (suc j) d le within = later i j d (omega arith) (omega arith)
+rise_step false at places above later i j d le within = later i j d le within
+
+places_rise : (pieces : List Piece) (at : ℕ) → IsNonDecreasingBy (λ (i : ℕ). i) (comment_places at pieces)
+places_rise [] at i j d le within = absurd (omega arith)
+places_rise (p ∷ pieces) at i j d le within = rise_step (is_comment p.kind) at (comment_places (at + 1) pieces) (places_from pieces (at + 1)) (places_rise pieces (at + 1)) i j d le within
+
+pub lead_rising : (notes : List Note) (places : List ℕ) (pieces : List Piece) → IsLeadIndex notes places pieces → IsNonDecreasingBy (λ (i : ℕ). i) places
+lead_rising notes places pieces h = subst (IsNonDecreasingBy (λ (i : ℕ). i)) (sym h.places_at) (places_rise pieces 0)
+
+-- ---- the notes between two places, as they are found
+abbrev Point : ℕ → List ℕ → ℕ → Type 0
+Point end places n = IsPartitionPoint (λ (i : ℕ). i < end) (λ (i : ℕ). end ≤ i) places n
+
+test_false : (i from to : ℕ) → to ≤ from → (leb from i && ltb i to) ≡ false
+test_false i from to le = by_test (leb from i) refl
+  where
+    by_test : (b : Bool) → leb from i ≡ b → (b && ltb i to) ≡ false
+    by_test true e = le-ltb i to (omega (arith, leb-true from i e))
+    by_test false e = refl
+
+below_false : (i from to : ℕ) → i < from → (leb from i && ltb i to) ≡ false
+below_false i from to lt = ap (λ b. b && ltb i to) (lt-leb from i lt)
+
+and_false : (b c : Bool) → c ≡ false → (b && c) ≡ false
+and_false true c e = e
+and_false false c e = refl
+
+above_false : (i from to : ℕ) → to ≤ i → (leb from i && ltb i to) ≡ false
+above_false i from to le = and_false (leb from i) (ltb i to) (le-ltb i to le)
+
+both_true : (i from to : ℕ) → from ≤ i → i < to → (leb from i && ltb i to) ≡ true
+both_true i from to le lt = ap (λ b. b && ltb i to) (le-leb from i le) ∙ lt-ltb i to lt
+
+left_out : (b : Bool) (x : Note) (ns : List Note) → b ≡ false → cond b (x ∷ []) [] ++ ns ≡ ns
+left_out b x ns e = ap (λ t. cond t (x ∷ []) [] ++ ns) e
+
+put_in : (b : Bool) (x : Note) (ns : List Note) → b ≡ true → cond b (x ∷ []) [] ++ ns ≡ x ∷ ns
+put_in b x ns e = ap (λ t. cond t (x ∷ []) [] ++ ns) e
+
+-- none where the one place is not before the other
+pub none_between : (notes : List Note) (places : List ℕ) (from to : ℕ) → to ≤ from → notes_between notes places from to ≡ []
+none_between [] places from to le = refl
+none_between (x ∷ notes) [] from to le = refl
+none_between (x ∷ notes) (i ∷ places) from to le = left_out _ x _ (test_false i from to le) ∙ none_between notes places from to le
+
+pub points_rise : (places : List ℕ) (from to a b : ℕ) → from < to → a ≤ length places → Point from places a → Point to places b → a ≤ b
+points_rise places from to a b lt within h k = by_test (ltb b a) refl
+  where
+    by_test : (t : Bool) → ltb b a ≡ t → a ≤ b
+    by_test true e = let less = ltb-true b a e in absurd (omega (arith, h.0 b 0 (omega arith) less, k.1 b 0 (omega arith) (omega arith)))
+    by_test false e = ltb-false b a e
+
+tail_zero : (end i : ℕ) (places : List ℕ) → Point end (i ∷ places) 0 → Point end places 0
+tail_zero end i places h = (λ k d low high. absurd (omega arith), λ k d low high. h.1 (suc k) d (omega arith) (omega arith))
+
+tail_suc : (end i : ℕ) (places : List ℕ) (n : ℕ) → Point end (i ∷ places) (suc n) → Point end places n
+tail_suc end i places n h = (λ k d low high. h.0 (suc k) d (omega arith) (omega arith), λ k d low high. h.1 (suc k) d (omega arith) (omega arith))
+
+-- the first place is before the end just where it is among those counted
+at_zero : (end i : ℕ) (places : List ℕ) → Point end (i ∷ places) 0 → end ≤ i
+at_zero end i places h = h.1 0 0 (omega arith) (omega arith)
+
+at_suc : (end i : ℕ) (places : List ℕ) (n : ℕ) → Point end (i ∷ places) (suc n) → i < end
+at_suc end i places n h = h.0 0 0 (omega arith) (omega arith)
+
+range_to_zero : (notes : List Note) (a : ℕ) → slice_range notes a 0 ≡ []
+range_to_zero notes a = let none : 0 - a ≡ 0 = omega arith in ap (λ n. take n (drop a notes)) none
+
+range_first : (x : Note) (notes : List Note) (b : ℕ) → slice_range (x ∷ notes) 0 (suc b) ≡ x ∷ slice_range notes 0 b
+range_first x notes b = let one_more : suc b - 0 ≡ suc (b - 0) = omega arith in ap (λ n. take n (x ∷ notes)) one_more
+
+range_later : (x : Note) (notes : List Note) (a b : ℕ) → slice_range (x ∷ notes) (suc a) (suc b) ≡ slice_range notes a b
+range_later x notes a b = let same : suc b - suc a ≡ b - a = omega arith in ap (λ n. take n (drop a notes)) same
+
+pub range_between : (notes : List Note) (places : List ℕ) (from to a b : ℕ) → length notes ≡ length places → a ≤ length places → b ≤ length places → Point from places a → Point to places b → slice_range notes a b ≡ notes_between notes places from to
+range_between [] [] from to zero zero same low high h k = refl
+range_between [] [] from to (suc a) b same low high h k = absurd (omega arith)
+range_between [] [] from to zero (suc b) same low high h k = absurd (omega arith)
+range_between [] (i ∷ places) from to a b same low high h k = absurd (omega arith)
+range_between (x ∷ notes) [] from to a b same low high h k = absurd (omega arith)
+range_between (x ∷ notes) (i ∷ places) from to zero zero same low high h k =
+    range_to_zero (x ∷ notes) 0 ∙ sym (range_to_zero notes 0)
+    ∙ range_between notes places from to 0 0 (omega arith) (omega arith) (omega arith) (tail_zero from i places h) (tail_zero to i places k)
+    ∙ sym (left_out _ x _ (above_false i from to (at_zero to i places k)))
+range_between (x ∷ notes) (i ∷ places) from to zero (suc b) same low high h k =
+    range_first x notes b
+    ∙ ap (λ ns. x ∷ ns) (range_between notes places from to 0 b (omega arith) (omega arith) (omega arith) (tail_zero from i places h) (tail_suc to i places b k))
+    ∙ sym (put_in _ x _ (both_true i from to (at_zero from i places h) (at_suc to i places b k)))
+range_between (x ∷ notes) (i ∷ places) from to (suc a) zero same low high h k =
+    range_to_zero (x ∷ notes) (suc a) ∙ sym (range_to_zero notes a)
+    ∙ range_between notes places from to a 0 (omega arith) (omega arith) (omega arith) (tail_suc from i places a h) (tail_zero to i places k)
+    ∙ sym (left_out _ x _ (above_false i from to (at_zero to i places k)))
+range_between (x ∷ notes) (i ∷ places) from to (suc a) (suc b) same low high h k =
+    range_later x notes a b
+    ∙ range_between notes places from to a b (omega arith) (omega arith) (omega arith) (tail_suc from i places a h) (tail_suc to i places b k)
+    ∙ sym (left_out _ x _ (below_false i from to (at_suc from i places a h)))
+
+-- ---- one more piece, by its kind
+count_step : (b : Bool) (q : Piece) (n : ℕ) (xs ys : List Piece) → length xs ≡ length ys + n → length (cond b (q ∷ xs) xs) ≡ length (cond b (q ∷ ys) ys) + n
+count_step true q n xs ys e = omega arith
+count_step false q n xs ys e = e
+
+abbrev one : Bool → ℕ
+one true = 1
+one false = 0
+
+count_piece : (before : List Piece) (p : Piece) → length (tokens_of (before ++ p ∷ [])) ≡ length (tokens_of before) + one (is_token p.kind)
+count_piece [] p = by_kind (is_token p.kind)
+  where
+    by_kind : (b : Bool) → length (cond b (p ∷ []) []) ≡ 0 + one b
+    by_kind true = refl
+    by_kind false = refl
+count_piece (q ∷ before) p = count_step (is_token q.kind) q _ _ _ (count_piece before p)
+
+-- none of the comments stands before their first place
+none_step : (b : Bool) (x : Note) (notes : List Note) (at : ℕ) (places : List ℕ) (from to : ℕ) → to ≤ at → notes_between notes places from to ≡ [] → notes_between (cond b (x ∷ notes) notes) (cond b (at ∷ places) places) from to ≡ []
+none_step true x notes at places from to le later = left_out _ x _ (above_false at from to le) ∙ later
+none_step false x notes at places from to le later = later
+
+none_before : (before after : List Piece) (at from to : ℕ) → to ≤ at → notes_between (notes_from before after) (comment_places at after) from to ≡ []
+none_before before [] at from to le = refl
+none_before before (p ∷ after) at from to le = none_step (is_comment p.kind) _ _ at _ from to le (none_before (before ++ p ∷ []) after (at + 1) from to (omega arith))
+
+-- none of the comments of the later pieces leads a token that stands before them
+past_step : (b : Bool) (count n : ℕ) (x : Note) (notes : List Note) → n < count → notes ≡ [] → cond (b && count == n) (x ∷ []) [] ++ notes ≡ []
+past_step b count n x notes lt later = left_out _ x notes (and_false b (count == n) (ne_eqb count n (λ e. omega arith))) ∙ later
+
+past_lead : (before after : List Piece) (n : ℕ) → n < length (tokens_of before) → lead_from n before after ≡ []
+past_lead before [] n lt = refl
+past_lead before (p ∷ after) n lt = past_step (is_comment p.kind) (length (tokens_of before)) n _ _ lt (past_lead (before ++ p ∷ []) after n (omega (arith, count_piece before p)))
+
+-- no token of the later pieces stands before the first of them
+token_step : (b : Bool) (at end : ℕ) (places : List ℕ) (m : ℕ) → at ≤ end → ((j : ℕ) → at + 1 ≤ end → at + 1 ≤ get_or places j end) → at + 1 ≤ end → at ≤ get_or (cond b (at ∷ places) places) m end
+token_step true at end places zero le later more = omega arith
+token_step true at end places (suc m) le later more = omega (arith, later m more)
+token_step false at end places m le later more = omega (arith, later m more)
+
+tokens_from : (pieces : List Piece) (at end m : ℕ) → end ≡ at + length pieces → at ≤ get_or (token_places at pieces) m end
+tokens_from [] at end m e = omega arith
+tokens_from (p ∷ pieces) at end m e = token_step (is_token p.kind) at end (token_places (at + 1) pieces) m (omega arith) (λ j more. tokens_from pieces (at + 1) end j (omega arith)) (omega arith)
+
+-- where what leads a token begins, where it begins at a place for the first
+abbrev start : ℕ → List ℕ → ℕ → ℕ → ℕ
+start low tokens end zero = low
+start low tokens end (suc m) = get_or tokens m end + 1
+
+-- what one piece brings, by its kind: the notes, places and tokens behind it are known
+lead_step : (k : Kind) (x : Note) (notes : List Note) (places tokens : List ℕ) (rest : ℕ → List Note) (at count end low m : ℕ) → low ≤ at
+    → ((j : ℕ) → at + 1 ≤ get_or tokens j end)
+    → ((from to : ℕ) → to ≤ at + 1 → notes_between notes places from to ≡ [])
+    → ((n : ℕ) → n < count + one (is_token k) → rest n ≡ [])
+    → ((low j : ℕ) → low ≤ at + 1 → notes_between notes places (start low tokens end j) (get_or tokens j end) ≡ rest (count + one (is_token k) + j))
+    → notes_between (cond (is_comment k) (x ∷ notes) notes) (cond (is_comment k) (at ∷ places) places) (start low (cond (is_token k) (at ∷ tokens) tokens) end m) (get_or (cond (is_token k) (at ∷ tokens) tokens) m end)
+    ≡ cond (is_comment k && count == count + m) (x ∷ []) [] ++ rest (count + m)
+lead_step (Token t) x notes places tokens rest at count end low zero le later none past known = none low at (omega arith) ∙ sym (past (count + 0) (omega arith))
+lead_step (Token t) x notes places tokens rest at count end low (suc zero) le later none past known = known (at + 1) 0 (omega arith) ∙ ap rest (omega arith)
+lead_step (Token t) x notes places tokens rest at count end low (suc (suc m)) le later none past known = known (at + 1) (suc m) (omega arith) ∙ ap rest (omega arith)
+lead_step Comment x notes places tokens rest at count end low zero le later none past known =
+    put_in _ x _ (both_true at low (get_or tokens 0 end) le (omega (arith, later 0)))
+    ∙ ap (λ ns. x ∷ ns) (known low 0 (omega arith) ∙ ap rest (omega arith))
+    ∙ sym (put_in (count == count + 0) x _ (eq-eqb count (count + 0) (omega arith)))
+lead_step Comment x notes places tokens rest at count end low (suc m) le later none past known =
+    left_out _ x _ (below_false at (get_or tokens m end + 1) (get_or tokens (suc m) end) (omega (arith, later m)))
+    ∙ known low (suc m) (omega arith) ∙ ap rest (omega arith)
+    ∙ sym (left_out (count == count + suc m) x _ (ne_eqb count (count + suc m) (λ e. omega arith)))
+lead_step _ x notes places tokens rest at count end low m le later none past known = known low m (omega arith) ∙ ap rest (omega arith)
+
+lead_later : (before after : List Piece) (at count end low m : ℕ) → count ≡ length (tokens_of before) → end ≡ at + length after → low ≤ at
+    → notes_between (notes_from before after) (comment_places at after) (start low (token_places at after) end m) (get_or (token_places at after) m end) ≡ lead_from (count + m) before after
+lead_later before [] at count end low m counted ends le = refl
+lead_later before (p ∷ after) at count end low m counted ends le =
+    lead_step p.kind (note_of before p after) (notes_from (before ++ p ∷ []) after) (comment_places (at + 1) after) (token_places (at + 1) after) (λ n. lead_from n (before ++ p ∷ []) after) at count end low m le
+    (λ j. tokens_from after (at + 1) end j (omega arith))
+    (none_before (before ++ p ∷ []) after (at + 1))
+    (λ n lt. past_lead (before ++ p ∷ []) after n (omega (arith, count_piece before p)))
+    (λ low2 j le2. lead_later (before ++ p ∷ []) after (at + 1) (count + one (is_token p.kind)) end low2 j (omega (arith, count_piece before p)) (omega arith) le2)
+    ∙ ap (λ c. cond (is_comment p.kind && c == count + m) (note_of before p after ∷ []) [] ++ lead_from (count + m) (before ++ p ∷ []) after) counted
+
+same_start : (tokens : List ℕ) (end n : ℕ) → gap_start tokens end n ≡ start 0 tokens end n
+same_start tokens end zero = refl
+same_start tokens end (suc n) = refl
+
+-- what leads token n stands from the place behind token n - 1 up to its own
+pub lead_between : (notes : List Note) (places tokens : List ℕ) (pieces : List Piece) (n from to : ℕ) → IsLeadIndex notes places pieces → tokens ≡ token_places 0 pieces
+    → from ≡ gap_start tokens (length pieces) n → to ≡ get_or tokens n (length pieces) → notes_between notes places from to ≡ lead_of pieces n
+lead_between notes places tokens pieces n from to h e begins ends =
+    ap (λ ns. notes_between ns places from to) h.notes_at
+    ∙ ap (λ is. notes_between (notes_from [] pieces) is from to) h.places_at
+    ∙ ap (λ i. notes_between (notes_from [] pieces) (comment_places 0 pieces) i to) (begins ∙ same_start tokens (length pieces) n ∙ ap (λ ts. start 0 ts (length pieces) n) e)
+    ∙ ap (λ i. notes_between (notes_from [] pieces) (comment_places 0 pieces) (start 0 (token_places 0 pieces) (length pieces) n) i) (ends ∙ ap (λ ts. get_or ts n (length pieces)) e)
+    ∙ lead_later [] pieces 0 0 (length pieces) 0 n refl (omega arith) (omega arith)
+    ∙ ap (λ k. lead_from k [] pieces) (omega arith)
+
+-- the start as the code makes it
+pub gap_later : (tokens : List ℕ) (end n place : ℕ) → (n ≡ 0 → ⊥) → place ≡ get_or tokens (n - 1) end → place + 1 ≡ gap_start tokens end n
+gap_later tokens end zero place some e = absurd (some refl)
+gap_later tokens end (suc n) place some e = ap (λ i. i + 1) (e ∙ ap (λ k. get_or tokens k end) (omega arith))
 
 -- ---- the last gap, told from its end
 pub gap_all : (before : List Piece) (at : ℕ) → at ≤ length before → suffix_len (λ p. not (is_content p.kind)) (take at before) + (length before - at) ≡ suffix_len (λ p. not (is_content p.kind)) before → suffix_len (λ p. not (is_content p.kind)) (take at before) ≡ 0 → drop at before ≡ last_gap before

@@ -24,7 +24,7 @@ pub fn cut(alloc: Global, src: &[u8]) -> Result<Cut, LexErr>
     ensures ok { IfOk result (λ cut. IsCut src.now cut) }
     ensures bad { IfErr result (IsCause src.now) }
 {
-    let mut growing = Growing::new(alloc)?;
+    let mut growing = Growing::new(alloc);
     let mut at = push_head(src, &mut growing)?;
     while at < src.len() {
         at = push_next(src, at, &mut growing)?;
@@ -38,9 +38,9 @@ fn push_next(src: &[u8], at: usize, growing: &mut Growing) -> Result<usize, LexE
     requires inside { at < length src.now }
     requires short { length src.now ≤ 16777216 }
     requires few { length growing.old.pieces.items ≤ at }
-    requires grown { IsGrown growing.old.tokens.items growing.old.comments.items growing.old.bounds.items growing.old.pieces.items }
+    requires grown { IsGrown growing.old.tokens.items growing.old.comments.items growing.old.pieces.items }
     ensures next { IfOk result (λ end. IsNext src.now at end growing.old.pieces.items growing.new.pieces.items) }
-    ensures grown { OnOk result (IsGrown growing.new.tokens.items growing.new.comments.items growing.new.bounds.items growing.new.pieces.items) }
+    ensures grown { OnOk result (IsGrown growing.new.tokens.items growing.new.comments.items growing.new.pieces.items) }
     ensures bad { IfErr result (IsFaultFrom src.now at) }
 {
     let from = behind_blanks(src, at);
@@ -68,9 +68,9 @@ fn push_solid(src: &[u8], at: usize, growing: &mut Growing) -> Result<usize, Lex
     requires short { length src.now ≤ 16777216 }
     requires few { length growing.old.pieces.items ≤ at }
     requires blank { begins class.is_blank (drop at src.now) ≡ false }
-    requires grown { IsGrown growing.old.tokens.items growing.old.comments.items growing.old.bounds.items growing.old.pieces.items }
+    requires grown { IsGrown growing.old.tokens.items growing.old.comments.items growing.old.pieces.items }
     ensures pushed { IfOk result (λ end. IsPushed src.now at end growing.old.pieces.items growing.new.pieces.items) }
-    ensures grown { OnOk result (IsGrown growing.new.tokens.items growing.new.comments.items growing.new.bounds.items growing.new.pieces.items) }
+    ensures grown { OnOk result (IsGrown growing.new.tokens.items growing.new.comments.items growing.new.pieces.items) }
     ensures bad { IfErr result (IsFaultAt src.now at) }
 {
     let text = &src[at..];

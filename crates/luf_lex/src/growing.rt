@@ -19,34 +19,29 @@ pub(crate) struct Growing {
     pub tokens: Vec<u32>,
     /// The places of the comments.
     pub comments: Vec<u32>,
-    /// 0, and how many comments stand before each token.
-    pub bounds: Vec<u32>,
 }
 
 impl Growing {
-    /// No pieces. The only error is that no memory was found, as for the others.
-    pub(crate) fn new(alloc: Global) -> Result<Growing, Memory>
-        ensures none { IfOk result (λ g. g.pieces.items ≡ []) }
-        ensures grown { IfOk result (λ g. IsGrown g.tokens.items g.comments.items g.bounds.items g.pieces.items) }
+    /// No pieces.
+    pub(crate) fn new(alloc: Global) -> Growing
+        ensures none { result.pieces.items ≡ [] }
+        ensures grown { IsGrown result.tokens.items result.comments.items result.pieces.items }
     {
-        let mut bounds = Vec::new(alloc);
-        bounds.push(0)?;
-        Ok(Growing {
+        Growing {
             pieces: Vec::new(alloc),
             tokens: Vec::new(alloc),
             comments: Vec::new(alloc),
-            bounds,
-        })
+        }
     }
 
-    /// Puts a piece behind the others.
+    /// Puts a piece behind the others. The only error is that no memory was found, as for those below.
     pub(crate) fn push(&mut self, kind: Kind, from: usize, to: usize) -> Result<(), Memory>
         requires from { from < 2 ^ 32 }
         requires to { to < 2 ^ 32 }
         requires few { length self.old.pieces.items < 2 ^ 32 }
-        requires grown { IsGrown self.old.tokens.items self.old.comments.items self.old.bounds.items self.old.pieces.items }
+        requires grown { IsGrown self.old.tokens.items self.old.comments.items self.old.pieces.items }
         ensures pieces { OnOk result (self.new.pieces.items ≡ self.old.pieces.items ++ record { kind = kind; span = record { from = from; to = to } } ∷ []) }
-        ensures grown { OnOk result (IsGrown self.new.tokens.items self.new.comments.items self.new.bounds.items self.new.pieces.items) }
+        ensures grown { OnOk result (IsGrown self.new.tokens.items self.new.comments.items self.new.pieces.items) }
     {
         match kind {
             Kind::Token(tok) => self.push_token(tok, from, to),
@@ -60,11 +55,10 @@ impl Growing {
         requires from { from < 2 ^ 32 }
         requires to { to < 2 ^ 32 }
         requires few { length self.old.pieces.items < 2 ^ 32 }
-        requires grown { IsGrown self.old.tokens.items self.old.comments.items self.old.bounds.items self.old.pieces.items }
+        requires grown { IsGrown self.old.tokens.items self.old.comments.items self.old.pieces.items }
         ensures pieces { OnOk result (self.new.pieces.items ≡ self.old.pieces.items ++ record { kind = Kind.Token tok; span = record { from = from; to = to } } ∷ []) }
-        ensures grown { OnOk result (IsGrown self.new.tokens.items self.new.comments.items self.new.bounds.items self.new.pieces.items) }
+        ensures grown { OnOk result (IsGrown self.new.tokens.items self.new.comments.items self.new.pieces.items) }
     {
-        self.bounds.push(self.comments.len() as u32)?;
         self.tokens.push(self.pieces.len() as u32)?;
         self.pieces.push(piece(Kind::Token(tok), from, to))?;
         Ok(())
@@ -75,9 +69,9 @@ impl Growing {
         requires from { from < 2 ^ 32 }
         requires to { to < 2 ^ 32 }
         requires few { length self.old.pieces.items < 2 ^ 32 }
-        requires grown { IsGrown self.old.tokens.items self.old.comments.items self.old.bounds.items self.old.pieces.items }
+        requires grown { IsGrown self.old.tokens.items self.old.comments.items self.old.pieces.items }
         ensures pieces { OnOk result (self.new.pieces.items ≡ self.old.pieces.items ++ record { kind = Kind.Comment; span = record { from = from; to = to } } ∷ []) }
-        ensures grown { OnOk result (IsGrown self.new.tokens.items self.new.comments.items self.new.bounds.items self.new.pieces.items) }
+        ensures grown { OnOk result (IsGrown self.new.tokens.items self.new.comments.items self.new.pieces.items) }
     {
         self.comments.push(self.pieces.len() as u32)?;
         self.pieces.push(piece(Kind::Comment, from, to))?;
@@ -90,9 +84,9 @@ impl Growing {
         requires comment { is_comment kind ≡ false }
         requires from { from < 2 ^ 32 }
         requires to { to < 2 ^ 32 }
-        requires grown { IsGrown self.old.tokens.items self.old.comments.items self.old.bounds.items self.old.pieces.items }
+        requires grown { IsGrown self.old.tokens.items self.old.comments.items self.old.pieces.items }
         ensures pieces { OnOk result (self.new.pieces.items ≡ self.old.pieces.items ++ record { kind = kind; span = record { from = from; to = to } } ∷ []) }
-        ensures grown { OnOk result (IsGrown self.new.tokens.items self.new.comments.items self.new.bounds.items self.new.pieces.items) }
+        ensures grown { OnOk result (IsGrown self.new.tokens.items self.new.comments.items self.new.pieces.items) }
     {
         self.pieces.push(piece(kind, from, to))?;
         Ok(())
@@ -102,16 +96,15 @@ impl Growing {
     pub(crate) fn finish(self, alloc: Global, end: usize) -> Result<Cut, Memory>
         requires few { length self.pieces.items ≤ 16777216 }
         requires end { end < 2 ^ 32 }
-        requires grown { IsGrown self.tokens.items self.comments.items self.bounds.items self.pieces.items }
+        requires grown { IsGrown self.tokens.items self.comments.items self.pieces.items }
         ensures { IfOk result (λ cut. cut ≡ filled 0 self.pieces.items end) }
     {
         let Growing {
             pieces,
             tokens,
             comments,
-            bounds,
         } = self;
-        let leads = Leads::of(alloc, pieces.as_slice(), comments.as_slice(), bounds)?;
+        let leads = Leads::of(alloc, pieces.as_slice(), comments)?;
         Ok(Cut::of(pieces, tokens, leads, end as u32))
     }
 }

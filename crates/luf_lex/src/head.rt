@@ -29,9 +29,9 @@ pub fn hash_line(src: &[u8]) -> Option<&[u8]>
 pub(crate) fn push_head(src: &[u8], growing: &mut Growing) -> Result<usize, Memory>
     requires few { length src.now ≤ 16777216 }
     requires none { growing.old.pieces.items ≡ [] }
-    requires grown { IsGrown growing.old.tokens.items growing.old.comments.items growing.old.bounds.items growing.old.pieces.items }
+    requires grown { IsGrown growing.old.tokens.items growing.old.comments.items growing.old.pieces.items }
     ensures pieces { IfOk result (λ end. filled 0 growing.new.pieces.items end ≡ head_of src.now) }
-    ensures grown { OnOk result (IsGrown growing.new.tokens.items growing.new.comments.items growing.new.bounds.items growing.new.pieces.items) }
+    ensures grown { OnOk result (IsGrown growing.new.tokens.items growing.new.comments.items growing.new.pieces.items) }
     ensures end { IfOk result (λ end. end ≡ head_end src.now) }
     ensures last { IfOk result (λ end. last_end 0 growing.new.pieces.items ≡ end) }
     ensures within { IfOk result (λ end. end ≤ length src.now) }

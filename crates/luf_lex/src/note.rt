@@ -1,8 +1,9 @@
-// The comments between the tokens of a source, with an index, and the empty lines before them.
-ghost use Rattle.std.specs.Prelude.{◌≡◌, ◌+◌, ◌<◌, ◌≤◌, ◌∷◌, length, IfOk};
+// The comments between the tokens of a source, with their places, and the empty lines before them.
+ghost use Rattle.std.specs.Prelude.{◌≡◌, ℕ, ◌<◌, ◌≤◌, [], length, IfOk};
+ghost use Rattle.std.specs.List.Sorted.{IsNonDecreasingBy, IsPartitionPoint};
 ghost use Rattle.luf_lex.specs.Note as notes;
-ghost use Rattle.luf_lex.specs.inner.Leads.{notes_at, IsRising, IsLeadIndex};
-ghost use Rattle.luf_lex.specs.inner.Growing.{comment_places, comments_before};
+ghost use Rattle.luf_lex.specs.inner.Leads.{notes_from, notes_between, IsLeadIndex};
+ghost use Rattle.luf_lex.specs.inner.Growing.{comment_places};
 
 use crate::{Piece, Span};
 use luf_memory::Memory;
@@ -21,47 +22,63 @@ pub struct Note {
     pub blank_before: bool,
 }
 
-/// The comments of a source in order, with an index of those that stand before each token.
+/// The comments of a source in order, with their places.
 #[derive(Debug, Drop)]
 pub(crate) struct Leads {
     notes: Vec<Note>,
-    /// The comments from bound `n` up to bound `n + 1` stand between token `n - 1` and token `n`.
-    bounds: Vec<u32>,
+    /// Where each of them stands among the pieces.
+    places: Vec<u32>,
 }
 
 impl Leads {
-    /// The comments at these places of some pieces, where so many stand before each token. The only error is that no
-    /// memory was found.
-    pub(crate) fn of(
-        alloc: Global,
-        pieces: &[Piece],
-        comments: &[u32],
-        mut bounds: Vec<u32>,
-    ) -> Result<Leads, Memory>
-        requires few { length pieces.now ≤ 16777216 }
-        requires comments { comments.now ≡ comment_places 0 pieces.now }
-        requires bounds { bounds.items ≡ 0 ∷ comments_before 0 pieces.now }
-        ensures { IfOk result (λ leads. IsLeadIndex leads.notes.items leads.bounds.items pieces.now) }
+    /// The comments at these places of some pieces. The only error is that no memory was found.
+    pub(crate) fn of(alloc: Global, pieces: &[Piece], comments: Vec<u32>) -> Result<Leads, Memory>
+        requires comments { comments.items ≡ comment_places 0 pieces.now }
+        ensures { IfOk result (λ leads. IsLeadIndex leads.notes.items leads.places.items pieces.now) }
     {
-        let mut notes = Vec::new(alloc);
-        for place in comments {
-            let place = *place as usize;
-            notes.push(note_of(&pieces[..place], pieces[place], &pieces[place + 1..]))?;
-        }
-        bounds.push(notes.len() as u32)?;
-        Ok(Leads { notes, bounds })
+        let notes = notes_at(alloc, pieces, comments.as_slice())?;
+        Ok(Leads {
+            notes,
+            places: comments,
+        })
     }
 
-    /// The comments from bound `n` up to bound `n + 1`.
-    pub(crate) fn get(&self, n: usize) -> &[Note]
-        requires rising { IsRising (length self.now.notes.items) self.now.bounds.items }
-        requires within { n + 1 < length self.now.bounds.items }
-        ensures { result.now ≡ notes_at self.now.notes.items self.now.bounds.items n }
+    /// The comments from one place up to another. Where no piece stands between the two it makes no search.
+    pub(crate) fn between(&self, from: usize, to: usize) -> &[Note]
+        requires count { length self.now.notes.items ≡ length self.now.places.items }
+        requires rising { IsNonDecreasingBy (λ (i : ℕ). i) self.now.places.items }
+        ensures { result.now ≡ notes_between self.now.notes.items self.now.places.items from to }
     {
-        let from = self.bounds[n] as usize;
-        let to = self.bounds[n + 1] as usize;
-        &self.notes[from..to]
+        if to <= from {
+            &self.notes[..0]
+        } else {
+            let first = self.count_before(from);
+            let end = self.count_before(to);
+            &self.notes[first..end]
+        }
     }
+
+    /// How many comments stand before this place.
+    fn count_before(&self, end: usize) -> usize
+        requires rising { IsNonDecreasingBy (λ (i : ℕ). i) self.now.places.items }
+        ensures within { result ≤ length self.now.places.items }
+        ensures point { IsPartitionPoint (λ (i : ℕ). i < end) (λ (i : ℕ). end ≤ i) self.now.places.items result }
+    {
+        self.places.partition_point(|place| (*place as usize) < end)
+    }
+}
+
+/// The comments at these places of some pieces.
+fn notes_at(alloc: Global, pieces: &[Piece], comments: &[u32]) -> Result<Vec<Note>, Memory>
+    requires comments { comments.now ≡ comment_places 0 pieces.now }
+    ensures { IfOk result (λ found. found.items ≡ notes_from [] pieces.now) }
+{
+    let mut found = Vec::new(alloc);
+    for place in comments {
+        let place = *place as usize;
+        found.push(note_of(&pieces[..place], pieces[place], &pieces[place + 1..]))?;
+    }
+    Ok(found)
 }
 
 /// A comment that stands between these pieces. It reads back to the last content, and on to the next content or

@@ -1,8 +1,9 @@
 // The pieces of a source, with an index of the tokens and the comments among them.
-ghost use Rattle.std.specs.Prelude.{◌≡◌, ◌≤◌, ◌↔◌, ◌++◌, ◌∷◌, [], length, slice_get, slice_index_or, IfOk, OnOk, IsTrue};
+ghost use Rattle.std.specs.Prelude.{◌≡◌, ◌<◌, ◌≤◌, ◌↔◌, ◌^◌, ◌++◌, ◌∷◌, [], length, slice_get, slice_index_or, IfOk, OnOk, IsTrue};
 ghost use Rattle.std.specs.Option.{option_copied};
 ghost use Rattle.luf_lex.specs.Cut.{IsCut};
 ghost use Rattle.luf_lex.specs.inner.Filled.{blank_between, filled};
+ghost use Rattle.luf_lex.specs.inner.Leads as leads;
 ghost use Rattle.luf_lex.specs.inner.Leads.{IsLeadIndex};
 ghost use Rattle.luf_lex.specs.Note.{lead_of, blank_of};
 ghost use Rattle.luf_lex.specs.Tokens.{toks_of, spans_of, spellings_of, tokens_of};
@@ -38,14 +39,14 @@ impl Model for Cut {
 
     ghost view = { λ c. filled 0 c.solid.items c.end };
 
-    ghost invariant = { λ c. (IsTokenIndex c.tokens.items c.solid.items) × IsLeadIndex c.leads.notes.items c.leads.bounds.items c.solid.items };
+    ghost invariant = { λ c. (IsTokenIndex c.tokens.items c.solid.items) × IsLeadIndex c.leads.notes.items c.leads.places.items c.solid.items };
 }
 
 impl Cut {
     /// The pieces with their index.
     pub(crate) fn of(solid: Vec<Piece>, tokens: Vec<u32>, leads: Leads, end: u32) -> Cut
         requires tokens { IsTokenIndex tokens.items solid.items }
-        requires leads { IsLeadIndex leads.notes.items leads.bounds.items solid.items }
+        requires leads { IsLeadIndex leads.notes.items leads.places.items solid.items }
         ensures { result ≡ filled 0 solid.items end }
     {
         Cut {
@@ -119,7 +120,9 @@ impl Cut {
         requires { n ≤ length (toks_of self.now) }
         ensures { result.now ≡ lead_of self.now n }
     {
-        self.leads.get(n as usize)
+        let places = self.tokens.as_slice();
+        let end = self.solid.len();
+        self.leads.between(gap_start(places, n, end), place_of(places, n, end))
     }
 
     /// Whether an empty line stands directly before token `n`, or before the end for `tokens`.
@@ -142,6 +145,20 @@ impl Cut {
         } else {
             None
         }
+    }
+}
+
+/// The place behind token `n - 1`, where these are the places of all; the first for 0.
+fn gap_start(places: &[u32], n: u32, end: usize) -> usize
+    requires { end < 2 ^ 32 }
+    ensures { result ≡ leads.gap_start places.now end n }
+{
+    if n == 0 {
+        return 0;
+    }
+    match places.get(n as usize - 1) {
+        Some(place) => *place as usize + 1,
+        None => end + 1,
     }
 }
 

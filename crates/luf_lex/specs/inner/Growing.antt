@@ -15,19 +15,10 @@ abbrev pub comment_places : ℕ → List Piece → List ℕ
 comment_places at [] = []
 comment_places at (p ∷ pieces) = if is_comment p.kind then at ∷ comment_places (at + 1) pieces else comment_places (at + 1) pieces
 
--- how many comments stand before each token, where so many stand before the pieces
-abbrev pub comments_before : ℕ → List Piece → List ℕ
-comments_before count [] = []
-comments_before count (p ∷ pieces) =
-    if is_token p.kind then count ∷ comments_before count pieces
-    else if is_comment p.kind then comments_before (count + 1) pieces
-    else comments_before count pieces
-
--- the places of the tokens and of the comments of these pieces, and how many comments stand before each token, behind a 0
-pub record IsGrown (tokens comments bounds : List ℕ) (pieces : List Piece) : Type 0 where
+-- the places of the tokens and of the comments of these pieces
+pub record IsGrown (tokens comments : List ℕ) (pieces : List Piece) : Type 0 where
   pub tokens_at : tokens ≡ token_places 0 pieces
   pub comments_at : comments ≡ comment_places 0 pieces
-  pub before : bounds ≡ 0 ∷ comments_before 0 pieces
 
 -- one more piece, which is the first of what is left of a source from a place on
 pub record IsPushed (source : List ℕ) (at end : ℕ) (old new : List Piece) : Type 0 where

@@ -9,7 +9,7 @@ invariant-loop-at l = record {
   so_far : IsCutSoFar l.src l.at l.growing.pieces.items;
   within : l.at ≤ length l.src;
   few : length l.growing.pieces.items ≤ l.at;
-  grown : IsGrown l.growing.tokens.items l.growing.comments.items l.growing.bounds.items l.growing.pieces.items;
+  grown : IsGrown l.growing.tokens.items l.growing.comments.items l.growing.pieces.items;
 }
 
 abbrev pub decreases-loop-at : goal.decreases-loop-at

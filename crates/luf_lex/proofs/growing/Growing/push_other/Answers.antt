@@ -7,7 +7,7 @@ use Rattle.luf_lex.proofs.growing.Growing.push_other.Goals as goal
 
 pub returns-clause-grown : goal.returns-clause-grown
 returns-clause-grown c =
-    grown_other c.args.self.now.tokens.items c.args.self.now.comments.items c.args.self.now.bounds.items c.args.self.now.pieces.items c.piece.result _
+    grown_other c.args.self.now.tokens.items c.args.self.now.comments.items c.args.self.now.pieces.items c.piece.result _
     (ap (λ (p : Piece). is_token p.kind) c.piece.ensures ∙ c.requires.token)
     (ap (λ (p : Piece). is_comment p.kind) c.piece.ensures ∙ c.requires.comment)
     c.in_ok-push.ensures.items c.requires.grown
