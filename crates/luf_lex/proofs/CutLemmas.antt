@@ -1,20 +1,20 @@
 -- The cut of a source, piece by piece.
-use Rattle.std.proofs.Common.{◌≡◌, ℕ, zero, suc, ◌+◌, ◌-◌, ◌<◌, ◌≤◌, ◌==◌, ◌⊎◌, inl, inr, Bool, true, false, cond, List, [], ◌∷◌, ◌++◌, length, take, drop, length-drop, refl, sym, ap, ◌∙◌, subst, arith, append_assoc, append-nil, one-add}
+use Rattle.std.proofs.Common.{◌≡◌, ℕ, zero, suc, ◌+◌, ◌-◌, ◌<◌, ◌≤◌, ◌==◌, ◌⊎◌, inl, inr, Bool, true, false, cond, List, [], ◌∷◌, ◌++◌, length, take, drop, refl, sym, ap, ◌∙◌, subst, arith, append_assoc, one-add}
 use Rattle.std.specs.Prelude.{Result, Ok, Err, IfErr, IsErrAnd}
 use Rattle.std.specs.List.{prefix_len}
 use Rattle.std.proofs.lemmas.Bool.{eqb-true, eq-eqb}
 use Rattle.std.proofs.lemmas.List.{drop-drop}
 use Rattle.luf_byte.specs.Class.{is_blank}
 use Rattle.luf_byte.specs.Front.{begins}
-use Rattle.luf_lex.specs.Cut.{Cuts, IsCut, IsCause, head_of, head_end}
-use Rattle.luf_lex.specs.First.{IsFirst, IsFault}
+use Rattle.luf_lex.specs.Cut.{Cuts, IsCause, head_of, head_end}
+use Rattle.luf_lex.specs.First.{IsFirst}
 use Rattle.luf_lex.specs.inner.Filled.{blank_between, filled, last_end}
-use Rattle.luf_lex.specs.inner.Growing.{IsPushed, IsNext, IsFaultAt, IsFaultFrom}
+use Rattle.luf_lex.specs.inner.Growing.{IsNext, IsFaultFrom}
 use Rattle.luf_lex.specs.declared.fault.LexErr.{LexErr}
 use Rattle.luf_lex.specs.declared.fault.LexErr.TheVariants.{Bad, Memory}
 use Rattle.luf_lex.specs.declared.token.Kind.{Kind}
 use Rattle.luf_lex.specs.declared.token.Kind.TheVariants.{Blank}
-use Rattle.luf_lex.proofs.FilledLemmas.{filled_first, filled_one, last_first}
+use Rattle.luf_lex.proofs.FilledLemmas.{filled_first, last_first}
 use Rattle.luf_lex.proofs.PlainLemmas.{blank_group, blank_first}
 use Rattle.luf_lex.proofs.RunLemmas.{tail_is}
 use Rattle.luf_lex.specs.declared.token.Piece.{Piece}
@@ -81,27 +81,6 @@ blanks_stop source at n is =
 pub pushed_first : (source : List ℕ) (at : ℕ) (kind : Kind) (n : ℕ) → IsFirst (take (length source - at) (drop at source)) kind n → IsFirst (drop at source) kind (at + n - at)
 pushed_first source at kind n first = subst (λ m. IsFirst (drop at source) kind m) (omega arith) (subst (λ t. IsFirst t kind n) (tail_is source at) first)
 
-pub next_none : (source : List ℕ) (at from : ℕ) (old : List Piece) → at < length source → Cuts source at (blank_between at from) from → from ≡ length source → IsNext source at from old old
-next_none source at from old inside cut all = record { more = []; pieces = sym (append-nil old); cut = cut; behind = omega arith; within = omega arith; few = omega arith; last = inr all }
-
-pub next_some : (source : List ℕ) (at from end : ℕ) (old new : List Piece) → at ≤ from → from < length source → Cuts source at (blank_between at from) from → IsPushed source from end old new → IsNext source at end old new
-next_some source at from end old new behind inside cut pushed =
-    let p : Piece = record { kind = pushed.kind; span = record { from = from; to = end } } in
-    record {
-      more = p ∷ [];
-      pieces = pushed.pieces;
-      cut = subst (λ ps. Cuts source at ps end) (sym (filled_one at p)) (cuts_push source at (blank_between at from) from p cut refl (omega (arith, pushed.first.some)) pushed.first);
-      behind = omega (arith, pushed.first.some);
-      within = omega (arith, pushed.first.within, length-drop from source);
-      few = omega arith;
-      last = inl refl;
-    }
-
-pub fault_behind : (source : List ℕ) (at from : ℕ) (e : LexErr) → from < length source → Cuts source at (blank_between at from) from → IsFaultAt source from e → IsFaultFrom source at e
-fault_behind source at from (Bad place what) inside cut fault =
-    (omega (arith, fault.0), subst (λ i. Cuts source at (blank_between at i) i) (sym fault.0) cut, subst (λ i. IsFault (drop i source) what) (sym fault.0) fault.1)
-fault_behind source at from Memory inside cut fault = tt
-
 -- The pieces so far with their blanks are the source so far. They end where it does, unless it is all.
 pub record IsCutSoFar (source : List ℕ) (at : ℕ) (pieces : List Piece) : Type 0 where
   pub rest : List Piece
@@ -126,12 +105,6 @@ cut_more source at end old new inside next so_far = by_last so_far.last next.las
       last = ended e last;
     }
 
-pub cut_whole : (source : List ℕ) (at end : ℕ) (pieces all : List Piece) → at ≡ length source → end ≡ length source → all ≡ filled 0 pieces end → IsCutSoFar source at pieces → IsCut source all
-cut_whole source at end pieces all is same are so_far = record {
-  rest = so_far.rest;
-  head = are ∙ ap (filled 0 pieces) (same ∙ sym is) ∙ so_far.all;
-  cut = subst (Cuts source (head_end source) so_far.rest) is so_far.cut;
-}
 
 pub cut_fault : (source : List ℕ) (at : ℕ) (pieces : List Piece) (e : LexErr) → IsFaultFrom source at e → IsCutSoFar source at pieces → IsCause source e
 cut_fault source at pieces (Bad place what) fault so_far = record {

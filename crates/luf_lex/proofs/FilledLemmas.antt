@@ -1,8 +1,8 @@
 -- Blanks say nothing of tokens, comments and empty lines: of pieces with their blanks the same is said as of those without.
-use Rattle.std.proofs.Common.{◌≡◌, ℕ, zero, suc, ◌+◌, ◌-◌, ◌<◌, ◌≤◌, Bool, true, false, not, ◌==◌, ◌&&◌, cond, List, [], ◌∷◌, ◌++◌, length, take, drop, get_or, refl, sym, ap, ◌∙◌, arith, append_assoc, append-nil, length-append}
+use Rattle.std.proofs.Common.{◌≡◌, ℕ, zero, suc, ◌+◌, ◌-◌, ◌≤◌, Bool, true, false, not, ◌==◌, ◌&&◌, cond, List, [], ◌∷◌, ◌++◌, length, take, drop, get_or, refl, sym, ap, ◌∙◌, arith, append_assoc, append-nil}
 use Rattle.std.specs.Prelude.{count_by, filter, nat_le, reverse, take_while}
 use Rattle.std.specs.Option.{option_to_list}
-use Rattle.std.specs.List.{list_all, suffix_len, prefix_len, sum_by}
+use Rattle.std.specs.List.{list_all, suffix_len}
 use Rattle.std.proofs.lemmas.List.{drop_all, drop-append-le, length-reverse, reverse-append, reverse-reverse}
 use Rattle.std.proofs.lemmas.List.Elements.{filter-append}
 use Rattle.std.proofs.lemmas.List.Sums.{sum_by-append, sum_by-cons, take_while-cons}

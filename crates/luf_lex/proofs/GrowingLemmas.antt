@@ -1,12 +1,11 @@
 -- What is kept of the pieces while a source is cut, one more piece at a time.
-use Rattle.std.proofs.Common.{◌≡◌, ℕ, zero, suc, ◌+◌, ◌<◌, Bool, true, false, cond, Some, List, [], ◌∷◌, ◌++◌, length, get_or, refl, sym, ap, ◌∙◌, subst, arith}
+use Rattle.std.proofs.Common.{◌≡◌, ℕ, zero, suc, ◌+◌, ◌<◌, Bool, true, false, cond, Some, List, [], ◌∷◌, ◌++◌, length, get_or, sym, ap, ◌∙◌, subst, arith}
 use Rattle.std.proofs.lemmas.Bool.{cond-true, cond-false}
 use Rattle.std.specs.Prelude.{slice_get}
 use Rattle.std.proofs.lemmas.Option.{slice_get-get_or}
 use Rattle.luf_lex.specs.Note.{is_comment}
 use Rattle.luf_lex.specs.Tokens.{is_token, token_places}
 use Rattle.luf_lex.specs.inner.Growing.{comment_places, IsGrown}
-use Rattle.luf_lex.specs.declared.token.Kind.{Kind}
 use Rattle.luf_lex.specs.declared.token.Kind.TheVariants.{Token, Comment}
 use Rattle.luf_lex.specs.declared.token.Piece.{Piece}
 use Rattle.luf_lex.specs.declared.token.Tok.{Tok}
@@ -50,9 +49,6 @@ pub comment_inside : (comments : List ℕ) (pieces : List Piece) (n : ℕ) → c
 comment_inside comments pieces n e within = omega (arith, comment_within 0 pieces n (get_or comments n 0) (ap (λ xs. slice_get xs n) (sym e) ∙ slice_get-get_or comments n 0 within))
 
 -- ---- one more piece
-pub no_pieces : IsGrown [] [] []
-no_pieces = record { tokens_at = refl; comments_at = refl }
-
 pub grown_token : (tokens comments : List ℕ) (pieces : List Piece) (p : Piece) (t : Tok) (new_tokens : List ℕ) (new : List Piece) → p.kind ≡ Token t → new_tokens ≡ tokens ++ length pieces ∷ [] → new ≡ pieces ++ p ∷ [] → IsGrown tokens comments pieces → IsGrown new_tokens comments new
 grown_token tokens comments pieces p t new_tokens new kind ts ps h =
     subst (IsGrown new_tokens comments) (sym ps) (record {

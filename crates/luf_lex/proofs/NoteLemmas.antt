@@ -1,8 +1,7 @@
 -- The comments of a cut, by their places, and the last gap.
-use Rattle.std.proofs.Common.{◌≡◌, ℕ, zero, suc, ◌+◌, ◌-◌, ◌<◌, ◌≤◌, Option, Some, Bool, true, false, not, ◌&&◌, ◌==◌, ltb, leb, cond, List, [], ◌∷◌, ◌++◌, length, take, drop, get_or, refl, sym, ap, ◌∙◌, subst, arith, append_assoc, append-nil, length-append, length-drop, add-one, ltb-true, ltb-false, leb-true, lt-ltb, le-ltb, le-leb, eq-eqb, ne_eqb}
+use Rattle.std.proofs.Common.{◌≡◌, ℕ, zero, suc, ◌+◌, ◌-◌, ◌<◌, ◌≤◌, Some, Bool, true, false, ◌&&◌, ◌==◌, ltb, leb, cond, List, [], ◌∷◌, ◌++◌, length, take, drop, get_or, refl, sym, ap, ◌∙◌, subst, arith, append_assoc, append-nil, length-append, length-drop, ltb-true, ltb-false, leb-true, lt-ltb, le-ltb, le-leb, eq-eqb, ne_eqb}
 use Rattle.std.specs.Prelude.{slice_range, slice_get}
 use Rattle.std.specs.Option.{option_to_list, option_map}
-use Rattle.std.specs.List.{suffix_len}
 use Rattle.std.specs.List.Sorted.{IsNonDecreasingBy, IsPartitionPoint}
 use Rattle.std.proofs.Math.Seq.{take-length, take-append_seam, drop-append-add}
 use Rattle.std.proofs.lemmas.Bool.{lt-leb}
@@ -10,13 +9,12 @@ use Rattle.std.proofs.lemmas.List.{take_more}
 use Rattle.std.proofs.lemmas.Option.{slice_get-get_or}
 use Rattle.luf_lex.specs.inner.Leads.{notes_from, notes_between, gap_start, IsLeadIndex}
 use Rattle.luf_lex.specs.inner.Growing.{comment_places}
-use Rattle.luf_lex.specs.Note.{is_comment, is_content, note_of, lead_from, lead_of, last_gap}
+use Rattle.luf_lex.specs.Note.{is_comment, note_of, lead_from, lead_of}
 use Rattle.luf_lex.specs.Tokens.{is_token, tokens_of, token_places}
 use Rattle.luf_lex.specs.declared.note.Note.{Note}
 use Rattle.luf_lex.specs.declared.token.Kind.{Kind}
 use Rattle.luf_lex.specs.declared.token.Kind.TheVariants.{Token, Comment}
 use Rattle.luf_lex.specs.declared.token.Piece.{Piece}
-use Rattle.luf_lex.specs.declared.token.Tok.{Tok}
 use Rattle.luf_lex.proofs.TokenLemmas.{at_seam}
 
 -- ---- the notes of the comments
@@ -290,11 +288,4 @@ lead_between notes places tokens pieces n from to h e begins ends =
     ∙ lead_later [] pieces 0 0 (length pieces) 0 n refl (omega arith) (omega arith)
     ∙ ap (λ k. lead_from k [] pieces) (omega arith)
 
--- the start as the code makes it
-pub gap_later : (tokens : List ℕ) (end n place : ℕ) → (n ≡ 0 → ⊥) → place ≡ get_or tokens (n - 1) end → place + 1 ≡ gap_start tokens end n
-gap_later tokens end zero place some e = absurd (some refl)
-gap_later tokens end (suc n) place some e = ap (λ i. i + 1) (e ∙ ap (λ k. get_or tokens k end) (omega arith))
-
 -- ---- the last gap, told from its end
-pub gap_all : (before : List Piece) (at : ℕ) → at ≤ length before → suffix_len (λ p. not (is_content p.kind)) (take at before) + (length before - at) ≡ suffix_len (λ p. not (is_content p.kind)) before → suffix_len (λ p. not (is_content p.kind)) (take at before) ≡ 0 → drop at before ≡ last_gap before
-gap_all before at within so_far none = ap (λ n. drop n before) (omega arith)

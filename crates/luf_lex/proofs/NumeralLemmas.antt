@@ -1,7 +1,7 @@
 -- The scan of a numeral, step by step.
 use Rattle.std.proofs.Common.{◌≡◌, ℕ, zero, suc, ◌+◌, ◌-◌, ◌<◌, ◌≤◌, Bool, true, false, cond, ◌&&◌, ◌||◌, eqb, List, [], ◌∷◌, length, take, drop, refl, sym, ap, ◌∙◌, subst, arith, get_or, ◌⊎◌, inl, inr}
 use Rattle.std.proofs.lemmas.Bool.{or_cases, eqb-true}
-use Rattle.std.proofs.lemmas.List.{drop-drop, drop_all}
+use Rattle.std.proofs.lemmas.List.{drop-drop}
 use Rattle.luf_byte.specs.Class.{is_hex_digit, is_letter}
 use Rattle.luf_byte.specs.Front.{begins}
 use Rattle.luf_num.specs.Numeral.{is_decimal_mark, is_binary_mark, HasNumeralForm}
@@ -10,7 +10,7 @@ use Rattle.luf_lex.specs.declared.token.Kind.TheVariants.{Token}
 use Rattle.luf_lex.specs.First.{numeral_tail, numeral_length, begins_hexadecimal, IsFirst, group_of, is_tried, IsFault, bad_numeral}
 use Rattle.luf_lex.specs.declared.group.Group.TheVariants.{Numeric}
 use Rattle.luf_lex.specs.declared.fault.LexWhat.TheVariants.{BadNumeral}
-use Rattle.luf_lex.specs.inner.Scan.{is_scanned, mark_of, step_of}
+use Rattle.luf_lex.specs.inner.Scan.{mark_of, step_of}
 
 -- the same over what the tests answer: m a mark, s a sign behind it, h a hexadecimal digit, d a point, l a letter
 on_two : (m s g l : Bool) (f : List ℕ → ℕ) (b c : ℕ) (rest : List ℕ) → 0 < cond (m && s) 2 (cond (m || g) 1 0)
@@ -53,21 +53,6 @@ step_none mark [] none = refl
 step_none mark (b ∷ []) none = none_one (mark b) (is_hex_digit b) (eqb b 46) (is_letter b) none
 step_none mark (b ∷ c ∷ rest) none = none_two (mark b) (eqb c 43 || eqb c 45) (is_hex_digit b || eqb b 46) (is_letter b) (numeral_tail mark rest) (numeral_tail mark (c ∷ rest)) none
 
-within_two : (m s g : Bool) → cond (m && s) 2 (cond (m || g) 1 0) ≤ 2
-within_two true true g = omega arith
-within_two true false g = omega arith
-within_two false s true = omega arith
-within_two false s false = omega arith
-
-within_one : (g : Bool) → cond g 1 0 ≤ 1
-within_one true = omega arith
-within_one false = omega arith
-
-pub step_within : (mark : ℕ → Bool) (text : List ℕ) → step_of mark text ≤ length text
-step_within mark [] = omega arith
-step_within mark (b ∷ []) = within_one (is_scanned mark b)
-step_within mark (b ∷ c ∷ rest) = omega (arith, within_two (mark b) (eqb c 43 || eqb c 45) (is_hex_digit b || eqb b 46))
-
 mark_is_letter : (lower : ℕ) → is_letter lower ≡ true → is_letter (lower - 32) ≡ true → (b : ℕ) → mark_of lower b ≡ true → is_letter b ≡ true
 mark_is_letter lower small capital b h = by_case (or_cases _ _ h)
   where
@@ -96,19 +81,12 @@ begins_behind p [] at inside = absurd (omega arith)
 begins_behind p (b ∷ text) zero inside = refl
 begins_behind p (b ∷ text) (suc at) inside = begins_behind p text at (omega arith)
 
-pub none_behind : (p : ℕ → Bool) (text : List ℕ) (at : ℕ) → length text ≤ at → begins p (drop at text) ≡ false
-none_behind p text at past = ap (begins p) (drop_all at text past)
-
 length_some : (text : List ℕ) → 0 < numeral_length text
 length_some text = by_prefix (begins_hexadecimal text)
   where
     by_prefix : (b : Bool) → 0 < cond b (2 + numeral_tail is_binary_mark (drop 2 text)) (1 + numeral_tail is_decimal_mark (drop 1 text))
     by_prefix true = omega arith
     by_prefix false = omega arith
-
-pub group_some : (text : List ℕ) → group_of text ≡ Numeric → 0 < length text
-group_some [] h = cc
-group_some (b ∷ text) h = omega arith
 
 -- what was scanned is the first piece, where it is a numeral
 pub numeral_first : (text : List ℕ) (n : ℕ) → group_of text ≡ Numeric → n ≡ numeral_length text → n ≤ length text → HasNumeralForm (take n text) → IsFirst text (Token Number) n

@@ -1,9 +1,9 @@
 -- The index of the tokens of a cut.
 use Rattle.std.proofs.Common.{◌≡◌, ℕ, zero, suc, ◌+◌, ◌<◌, ◌≤◌, Bool, true, false, cond, Option, Some, None, List, [], ◌∷◌, ◌++◌, length, length-append, get_or, refl, sym, ap, ◌∙◌, subst, arith, append_assoc}
 use Rattle.std.specs.Prelude.{slice_get, option_and_then}
-use Rattle.std.specs.Option.{option_to_list, option_map}
-use Rattle.std.proofs.lemmas.Option.{slice_get-get_or, slice_get_past, slice_get-map}
-use Rattle.luf_lex.specs.Tokens.{is_token, tok_of, tokens_of, toks_of, spans_of, token_places}
+use Rattle.std.specs.Option.{option_to_list}
+use Rattle.std.proofs.lemmas.Option.{slice_get-get_or, slice_get_past}
+use Rattle.luf_lex.specs.Tokens.{is_token, tok_of, tokens_of, toks_of, token_places}
 use Rattle.luf_lex.specs.declared.token.Kind.{Kind}
 use Rattle.luf_lex.specs.declared.token.Kind.TheVariants.{Token}
 use Rattle.luf_lex.specs.declared.token.Piece.{Piece}
@@ -110,9 +110,6 @@ tok_from pieces n p e = tok_at pieces n ∙ ap (λ o. option_and_then (λ q. tok
 
 pub no_tok_from : (pieces : List Piece) (n : ℕ) → slice_get (tokens_of pieces) n ≡ None → slice_get (toks_of pieces) n ≡ None
 no_tok_from pieces n e = tok_at pieces n ∙ ap (λ o. option_and_then (λ q. tok_of q.kind) o) e
-
-pub span_from : (pieces : List Piece) (n : ℕ) (p : Piece) → slice_get (tokens_of pieces) n ≡ Some p → slice_get (spans_of pieces) n ≡ Some p.span
-span_from pieces n p e = slice_get-map (λ q. q.span) (tokens_of pieces) n ∙ ap (λ o. option_map (λ q. q.span) o) e
 
 pub no_tok : (k : Kind) → ((t : Tok) → k ≡ Token t → ⊥) → tok_of k ≡ None
 no_tok (Token t) none = absurd (none t refl)

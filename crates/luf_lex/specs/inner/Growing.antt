@@ -4,7 +4,7 @@ use Rattle.luf_lex.specs.Cut.{Cuts}
 use Rattle.luf_lex.specs.First.{IsFirst, IsFault}
 use Rattle.luf_lex.specs.Note.{is_comment}
 use Rattle.luf_lex.specs.inner.Filled.{blank_between, filled, last_end}
-use Rattle.luf_lex.specs.Tokens.{is_token, token_places}
+use Rattle.luf_lex.specs.Tokens.{token_places}
 use Rattle.luf_lex.specs.declared.fault.LexErr.{LexErr}
 use Rattle.luf_lex.specs.declared.fault.LexErr.TheVariants.{Bad, Memory}
 use Rattle.luf_lex.specs.declared.token.Kind.{Kind}

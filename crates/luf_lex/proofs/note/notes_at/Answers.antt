@@ -1,4 +1,4 @@
-use Rattle.std.proofs.Common.{◌∙◌, ap, length, get_or, arith}
+use Rattle.std.proofs.Common.{◌∙◌, ap, get_or, arith}
 use Rattle.std.proofs.lemmas.List.{length-take-le, take_all}
 use Rattle.luf_lex.proofs.GrowingLemmas.{comment_inside}
 use Rattle.luf_lex.proofs.NoteLemmas.{noted, noted_more, noted_notes}

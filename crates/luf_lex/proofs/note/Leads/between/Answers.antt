@@ -1,5 +1,5 @@
 use Rattle.std.proofs.Common.{◌-◌, take, drop, sym, ◌∙◌, ap, arith}
-use Rattle.luf_lex.proofs.NoteLemmas.{none_between, points_rise, range_between}
+use Rattle.luf_lex.proofs.NoteLemmas.{none_between, range_between}
 use Rattle.luf_lex.proofs.note.Leads.between.Goals as goal
 
 pub returns-then-to-from : goal.returns-then-to-from
