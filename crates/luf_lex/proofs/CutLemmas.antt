@@ -66,6 +66,7 @@ blanks_cut source at n is = by_test (at == at + n) refl
   where
     run : n ≡ prefix_len is_blank (drop at source)
     run = is ∙ ap (prefix_len is_blank) (tail_is source at)
+
     by_test : (v : Bool) → (at == at + n) ≡ v → Cuts source at (cond v [] (record { kind = Blank; span = record { from = at; to = at + n } } ∷ [])) (at + n)
     by_test true e = eqb-true at (at + n) e
     by_test false e =
@@ -94,6 +95,7 @@ cut_more source at end old new inside next so_far = by_last so_far.last next.las
     ended : last_end 0 old ≡ at → (last_end at next.more ≡ end) ⊎ (end ≡ length source) → (last_end 0 new ≡ end) ⊎ (end ≡ length source)
     ended e (inl h) = inl (ap (last_end 0) next.pieces ∙ last_first 0 old next.more ∙ ap (λ i. last_end i next.more) e ∙ h)
     ended e (inr h) = inr h
+
     by_last : (last_end 0 old ≡ at) ⊎ (at ≡ length source) → (last_end at next.more ≡ end) ⊎ (end ≡ length source) → IsCutSoFar source end new
     by_last (inr e) last = absurd (omega arith)
     by_last (inl e) last = record {
@@ -104,7 +106,6 @@ cut_more source at end old new inside next so_far = by_last so_far.last next.las
       cut = cuts_join source (head_end source) so_far.rest at (filled at next.more end) end so_far.cut next.cut;
       last = ended e last;
     }
-
 
 pub cut_fault : (source : List ℕ) (at : ℕ) (pieces : List Piece) (e : LexErr) → IsFaultFrom source at e → IsCutSoFar source at pieces → IsCause source e
 cut_fault source at pieces (Bad place what) fault so_far = record {

@@ -169,6 +169,7 @@ counted_back q (x ∷ r) (suc k) =
   where
     less : suc (length r) - suc k ≡ length r - k
     less = omega arith
+
     turned : (a b : ℕ) → b + (a + 0) ≡ a + b
     turned a b = omega arith
 

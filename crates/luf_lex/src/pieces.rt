@@ -122,7 +122,8 @@ impl Cut {
     {
         let places = self.tokens.as_slice();
         let end = self.solid.len();
-        self.leads.between(gap_start(places, n, end), place_of(places, n, end))
+        self.leads
+            .between(gap_start(places, n, end), place_of(places, n, end))
     }
 
     /// Whether an empty line stands directly before token `n`, or before the end for `tokens`.

@@ -8,7 +8,6 @@ pub mod PairedWritten
 pub mod ItemsWithin
 pub mod ItemsSpelled
 pub mod NewSpelling
-pub mod PiecesWithin
 pub mod TextLemmas
 pub mod SpelledTokens
 pub mod Same

@@ -1,5 +1,5 @@
 -- The text of tokens has them, behind the `#` line of a source.
-use Rattle.std.proofs.Common.{◌≡◌, ℕ, zero, suc, ◌+◌, ◌-◌, ◌<◌, Bool, true, false, cond, eqb, not, ◌&&◌, List, [], ◌∷◌, ◌++◌, Some, length, length-append, append-nil, append_assoc, take, drop, codes, refl, sym, ap, ◌∙◌, subst, arith}
+use Rattle.std.proofs.Common.{◌≡◌, ℕ, zero, suc, ◌+◌, ◌-◌, ◌<◌, Bool, true, false, cond, eqb, not, ◌&&◌, List, [], ◌∷◌, ◌++◌, Option, None, Some, length, length-append, append-nil, append_assoc, take, drop, codes, refl, sym, ap, ◌∙◌, subst, arith}
 use Rattle.std.specs.List.{prefix_len}
 use Rattle.std.specs.Prelude.{slice_range, slice_get, map}
 use Rattle.std.proofs.Math.Seq.{take-append_seam, drop-append_seam, drop-drop}
@@ -13,7 +13,7 @@ use Rattle.luf_byte.specs.LineEnd.{line_end_length}
 use Rattle.luf_lex.specs.First.{IsFirst, is_tried, group_of}
 use Rattle.luf_lex.specs.declared.group.Group.{Group}
 use Rattle.luf_lex.specs.declared.group.Group.TheVariants.{Quoted}
-use Rattle.luf_lex.specs.Cut.{Cuts, IsCut, mark_length, hash_length, head_of, head_end}
+use Rattle.luf_lex.specs.Cut.{Cuts, IsCut, mark_length, hash_length, head_of, head_end, hash_line_of}
 use Rattle.luf_lex.specs.Tokens.{tokens_of, toks_of, spellings_of}
 use Rattle.luf_lex.specs.declared.token.Tok.{Tok}
 use Rattle.luf_lex.specs.declared.token.Tok.TheVariants.{Sign}
@@ -26,6 +26,7 @@ use Rattle.luf_lex.proofs.TokenLemmas.{length_tokens}
 use Rattle.luf_lex.proofs.PlainLemmas.{line_end_first}
 use Rattle.luf_tree.specs.Grammar.{At}
 use Rattle.luf_min.specs.Text.{IsJoined, nothing, alone, apart, spaced, is_hash_line, hash_text}
+use Rattle.luf_min.specs.inner.Line.{line_text}
 use Rattle.luf_guard.proofs.Before.{spelled_some}
 use Rattle.luf_lex.proofs.PieceSpellings.{SpelledAt, spelled_at}
 use Rattle.luf_guard.proofs.Words.{run_before, begins_some, begins_front}
@@ -92,29 +93,6 @@ no_hash_behind source at (p ∷ pieces) to cut =
     ∙ no_hash_behind source p.span.to pieces to cut.3
 
 -- nor among the first pieces behind it
-no_hash_first : (source : List ℕ) (at : ℕ) (pieces : List Piece) (to count : ℕ) → Cuts source at pieces to → hash_text source (take count pieces) ≡ []
-no_hash_first source at pieces to zero cut = refl
-no_hash_first source at [] to (suc count) cut = refl
-no_hash_first source at (p ∷ pieces) to (suc count) cut =
-    ap (λ v. cond v (bytes_of source p ++ codes "\n") [] ++ hash_text source (take count pieces)) (tried_no_hash (group_of (drop at source)) p.kind cut.2.tried)
-    ∙ no_hash_first source p.span.to pieces to count cut.3
-
-first_two : (source : List ℕ) (v w : Bool) (m n : ℕ) (rest : List Piece) → ((count : ℕ) → hash_text source (take count rest) ≡ hash_text source rest)
-    → hash_text source (take 2 ((marked v m ++ hashed w m n) ++ rest)) ≡ hash_text source ((marked v m ++ hashed w m n) ++ rest)
-first_two source true true m n rest none = none 2
-first_two source true false m n rest none = ap (λ t. (slice_range source m n ++ codes "\n") ++ t) (none 1)
-first_two source false true m n rest none = none 1
-first_two source false false m n rest none = ap (λ t. (slice_range source m n ++ codes "\n") ++ t) (none 0)
-
--- so it is the first piece or the second
-pub hash_text_first : (source : List ℕ) (pieces : List Piece) → IsCut source pieces → hash_text source (take 2 pieces) ≡ hash_text source pieces
-hash_text_first source pieces cut =
-    let none = no_hash_behind source (head_end source) cut.rest (length source) cut.cut in
-    ap (λ (ps : List Piece). hash_text source (take 2 ps)) cut.head
-    ∙ first_two source (eqb (mark_length source) 0) (eqb (head_end source) (mark_length source)) (mark_length source) (head_end source) cut.rest
-    (λ count. no_hash_first source (head_end source) cut.rest (length source) count cut.cut ∙ sym none)
-    ∙ ap (hash_text source) (sym cut.head)
-
 hash_none : (source : List ℕ) (v : Bool) (m n : ℕ) (rest : List Piece) → hash_text source ((marked v m ++ hashed true m n) ++ rest) ≡ hash_text source rest
 hash_none source true m n rest = refl
 hash_none source false m n rest = refl
@@ -138,6 +116,14 @@ hash_text_there source pieces cut some =
     ∙ hash_there source (eqb (mark_length source) 0) (mark_length source) (head_end source) cut.rest
     ∙ ap (λ t. (slice_range source (mark_length source) (head_end source) ++ codes "\n") ++ t) (no_hash_behind source (head_end source) cut.rest (length source) cut.cut)
     ∙ append-nil (slice_range source (mark_length source) (head_end source) ++ codes "\n")
+
+-- that is what is written of the source's own
+pub hash_text_is : (source : List ℕ) (pieces : List Piece) → IsCut source pieces → line_text (hash_line_of source) ≡ hash_text source pieces
+hash_text_is source pieces cut = by_head (eqb (head_end source) (mark_length source)) refl
+  where
+    by_head : (w : Bool) → eqb (head_end source) (mark_length source) ≡ w → line_text (cond w None (Some (slice_range source (mark_length source) (head_end source)))) ≡ hash_text source pieces
+    by_head true e = sym (hash_text_none source pieces cut e)
+    by_head false e = sym (hash_text_there source pieces cut e)
 
 -- what the head counts as a `#` line is one
 hash_front : (text : List ℕ) (v : Bool) → begins (λ b. eqb b 35) text ≡ v → 0 < cond v (prefix_len in_line text) 0 → IsHashLine (take (cond v (prefix_len in_line text) 0) text)

@@ -1,20 +1,21 @@
 // The text of items: the `#` line of the source, and the words with the fewest spaces.
 ghost use Rattle.std.specs.Prelude.{◌≡◌, ◌≤◌, ◌++◌, ℕ, List, length, take, drop, map, ◌<◌, IfSome, IfOk, OnOk, OnErr};
 ghost use Rattle.std.specs.List.{All};
-ghost use Rattle.luf_lex.specs.Cut.{IsCut};
+ghost use Rattle.luf_lex.specs.Cut.{IsCut, hash_line_of};
 ghost use Rattle.luf_lex.specs.Tokens.{toks_of};
 ghost use Rattle.luf_guard.specs.Space.{IsTokenSpelling};
 ghost use Rattle.luf_scope.specs.Links.{spelling_in};
 ghost use Rattle.luf_min.specs.Minified.{spelled_under};
-ghost use Rattle.luf_min.specs.Text.{IsJoined, hash_line, hash_text};
+ghost use Rattle.luf_min.specs.Text.{IsJoined};
 ghost use Rattle.luf_min.specs.inner.Items.{IsWithin, spelling_of};
+ghost use Rattle.luf_min.specs.inner.Line.{line_text};
 ghost use Rattle.luf_min.specs.inner.Next.{IsNext, IsWritten, last_word, spaced};
 
 use crate::item::Item;
 use crate::spelling::{sign_spelling, word_spelling};
 use luf_guard::needs_space;
 use luf_interf::Names;
-use luf_lex::{Cut, Kind, Piece};
+use luf_lex::{Cut, hash_line};
 use luf_memory::Memory;
 
 /// Appends the words in order, with one space exactly where two need it. What an error leaves begins with what was
@@ -119,42 +120,14 @@ fn tail(text: &[u8], from: usize) -> &[u8]
     &text[from..]
 }
 
-/// Appends the `#` line of a cut, if it has one, and a line feed. Only a mark stands before it. What an error leaves
+/// Appends the `#` line of a source and a line feed, if it has one. Only a mark stands before it. What an error leaves
 /// begins with what was there.
-pub(crate) fn write_hash_line(src: &[u8], cut: &Cut, into: &mut Vec<u8>) -> Result<(), Memory>
-    requires { IsCut src.now cut.now }
-    ensures ok { OnOk result (into.new.items ≡ into.old.items ++ hash_text src.now cut.now) }
+pub(crate) fn write_hash_line(src: &[u8], into: &mut Vec<u8>) -> Result<(), Memory>
+    ensures ok { OnOk result (into.new.items ≡ into.old.items ++ line_text (hash_line_of src.now)) }
     ensures err { OnErr result (take (length into.old.items) into.new.items ≡ into.old.items) }
 {
-    for piece in first_two(cut.pieces()) {
-        if let Err(e) = write_if_hash_line(src, piece, into) {
-            return Err(e);
-        }
-    }
-    Ok(())
-}
-
-/// The first two pieces, or all where there are fewer.
-fn first_two(pieces: &[Piece]) -> &[Piece]
-    ensures { result.now ≡ take 2 pieces.now }
-{
-    if pieces.len() > 2 {
-        &pieces[..2]
-    } else {
-        pieces
-    }
-}
-
-fn write_if_hash_line(src: &[u8], piece: &Piece, into: &mut Vec<u8>) -> Result<(), Memory>
-    requires order { piece.now.span.from ≤ piece.now.span.to }
-    requires within { piece.now.span.to ≤ length src.now }
-    ensures ok { OnOk result (into.new.items ≡ into.old.items ++ hash_line src.now piece.now) }
-    ensures err { OnErr result (take (length into.old.items) into.new.items ≡ into.old.items) }
-{
-    if matches!(piece.kind, Kind::HashLine) {
-        let from = piece.span.from as usize;
-        let to = piece.span.to as usize;
-        into.extend_from_slice(&src[from..to])?;
+    if let Some(line) = hash_line(src) {
+        into.extend_from_slice(line)?;
         into.push(b'\n')?;
     }
     Ok(())

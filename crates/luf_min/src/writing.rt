@@ -51,7 +51,7 @@ fn write_text(
     ensures err { OnErr result (take (length into.old.items) into.new.items ≡ into.old.items) }
 {
     let found = items(alloc, cut, c)?;
-    if let Err(e) = write_hash_line(src, cut, into) {
+    if let Err(e) = write_hash_line(src, into) {
         return Err(e);
     }
     write_items(src, cut, n, found.as_slice(), into)

@@ -1,5 +1,6 @@
 pub mod Answered
 pub mod FormatLemmas
+pub mod HashLemmas
 pub mod ListLemmas
 pub mod MinifyLemmas
 pub mod RefusalLemmas
