@@ -7,6 +7,7 @@ use crate::adding::{add, add_all};
 use crate::mark::{GapKind, Mark, Part};
 use luf_lex::{Sign, Word};
 use luf_memory::Memory;
+use luf_packed::Packed;
 use luf_tree::{Expr, Field};
 
 /// A part that begins with that word.
@@ -137,7 +138,7 @@ pub(crate) fn add_power_sign(sign: u32, into: &mut Vec<Mark>) -> Result<(), Memo
 {
     let marks = [
         Mark::Gap(GapKind::Space),
-        Mark::Token(sign),
+        Mark::Token(Packed::new(sign)),
         Mark::Gap(GapKind::Space),
     ];
     add_all(&marks, into)
@@ -149,7 +150,7 @@ pub(crate) fn add_step_sign(sign: u32, into: &mut Vec<Mark>) -> Result<(), Memor
 {
     let marks = [
         Mark::Gap(GapKind::Line),
-        Mark::Token(sign),
+        Mark::Token(Packed::new(sign)),
         Mark::Gap(GapKind::Space),
     ];
     add_all(&marks, into)
@@ -160,7 +161,7 @@ pub(crate) fn add_named(name: u32, into: &mut Vec<Mark>) -> Result<(), Memory>
     ensures { OnOk result (into.new.items ≡ into.old.items ++ runs.named_field name) }
 {
     let marks = [
-        Mark::Token(name),
+        Mark::Token(Packed::new(name)),
         Mark::Gap(GapKind::Space),
         Mark::Sign(Sign::Assign),
         Mark::Gap(GapKind::Space),
@@ -175,7 +176,7 @@ pub(crate) fn add_dot(name: u32, into: &mut Vec<Mark>) -> Result<(), Memory>
         Mark::Gap(GapKind::Tight),
         Mark::Sign(Sign::Dot),
         Mark::Gap(GapKind::Tight),
-        Mark::Token(name),
+        Mark::Token(Packed::new(name)),
     ];
     add_all(&marks, into)
 }

@@ -1,6 +1,7 @@
 // The marks of a draft: what it holds, one after another.
 
 use luf_lex::{Sign, Word};
+use luf_packed::Packed;
 
 /// What encloses a part of a draft.
 #[derive(Clone, Copy, Debug, PartialEq, Eq)]
@@ -33,10 +34,10 @@ pub enum GapKind {
 }
 
 /// One mark of a draft that is written flat.
-#[derive(Clone, Copy, Debug, PartialEq, Eq)]
+#[derive(Clone, Copy, Debug)]
 pub enum Mark {
     /// A token of the source, by its number.
-    Token(u32),
+    Token(Packed),
     Word(Word),
     Sign(Sign),
     Gap(GapKind),

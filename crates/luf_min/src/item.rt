@@ -4,11 +4,12 @@ ghost use Rattle.luf_min.specs.inner.Listed.{before_part};
 
 use luf_lex::{Sign, Word};
 use luf_memory::Memory;
+use luf_packed::Packed;
 
 /// A word of a text: a token of the source, by its number, or a keyword or a sign.
-#[derive(Clone, Copy, Debug, PartialEq, Eq)]
+#[derive(Clone, Copy, Debug)]
 pub(crate) enum Item {
-    Token(u32),
+    Token(Packed),
     Word(Word),
     Sign(Sign),
 }
@@ -16,7 +17,7 @@ pub(crate) enum Item {
 pub(crate) fn add_token(n: u32, into: &mut Vec<Item>) -> Result<(), Memory>
     ensures { OnOk result (into.new.items ≡ into.old.items ++ Item.Token n ∷ []) }
 {
-    into.push(Item::Token(n))?;
+    into.push(Item::Token(Packed::new(n)))?;
     Ok(())
 }
 

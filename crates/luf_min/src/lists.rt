@@ -7,6 +7,7 @@ ghost use Rattle.luf_min.specs.inner.Listed.{names_listed, dots_behind, paramete
 use crate::item::{Item, add_all, add_sign, add_token, add_word, separate};
 use luf_lex::{Sign, Word};
 use luf_memory::Memory;
+use luf_packed::Packed;
 use luf_tree::Declared;
 
 pub(crate) fn add_names(names: &[u32], into: &mut Vec<Item>) -> Result<(), Memory>
@@ -75,7 +76,7 @@ fn add_declared(d: Declared, into: &mut Vec<Item>) -> Result<(), Memory>
         Some(name) => add_all(
             &[
                 Item::Sign(Sign::Less),
-                Item::Token(name),
+                Item::Token(Packed::new(name)),
                 Item::Sign(Sign::Greater),
             ],
             into,
@@ -95,7 +96,7 @@ pub(crate) fn add_function(
     add_path(path, into)?;
     match method {
         None => Ok(()),
-        Some(name) => add_all(&[Item::Sign(Sign::Colon), Item::Token(name)], into),
+        Some(name) => add_all(&[Item::Sign(Sign::Colon), Item::Token(Packed::new(name))], into),
     }
 }
 
@@ -118,7 +119,7 @@ pub(crate) fn add_local_function(name: u32, into: &mut Vec<Item>) -> Result<(), 
     let items = [
         Item::Word(Word::Local),
         Item::Word(Word::Function),
-        Item::Token(name),
+        Item::Token(Packed::new(name)),
     ];
     add_all(&items, into)
 }
@@ -129,7 +130,7 @@ pub(crate) fn add_for(name: u32, into: &mut Vec<Item>) -> Result<(), Memory>
 {
     let items = [
         Item::Word(Word::For),
-        Item::Token(name),
+        Item::Token(Packed::new(name)),
         Item::Sign(Sign::Assign),
     ];
     add_all(&items, into)
@@ -149,7 +150,7 @@ pub(crate) fn add_label(name: u32, into: &mut Vec<Item>) -> Result<(), Memory>
 {
     let items = [
         Item::Sign(Sign::DoubleColon),
-        Item::Token(name),
+        Item::Token(Packed::new(name)),
         Item::Sign(Sign::DoubleColon),
     ];
     add_all(&items, into)
@@ -158,5 +159,5 @@ pub(crate) fn add_label(name: u32, into: &mut Vec<Item>) -> Result<(), Memory>
 pub(crate) fn add_goto(name: u32, into: &mut Vec<Item>) -> Result<(), Memory>
     ensures { OnOk result (into.new.items ≡ into.old.items ++ Item.Word Goto ∷ Item.Token name ∷ []) }
 {
-    add_all(&[Item::Word(Word::Goto), Item::Token(name)], into)
+    add_all(&[Item::Word(Word::Goto), Item::Token(Packed::new(name))], into)
 }

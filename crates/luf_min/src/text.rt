@@ -58,7 +58,7 @@ fn write_item(
     ensures err { OnErr result (take (length into.old.items) into.new.items ≡ into.old.items) }
 {
     match item {
-        Item::Token(n) => write_token(src, cut, names, last, *n, into),
+        Item::Token(n) => write_token(src, cut, names, last, n.get(), into),
         Item::Word(word) => write_word(last, word_spelling(*word), into),
         Item::Sign(sign) => write_word(last, sign_spelling(*sign), into),
     }

@@ -15,7 +15,7 @@ pub(crate) fn text_of(written: &Texts, mark: Mark) -> &[u8]
     ensures { result.now ≡ text_of (shown written.now mark) }
 {
     match mark {
-        Mark::Token(n) => written.get(n as usize),
+        Mark::Token(n) => written.get(n.get() as usize),
         Mark::Word(word) => word_spelling(word),
         Mark::Sign(sign) => sign_spelling(sign),
         Mark::Gap(_) | Mark::Trail | Mark::Open(_) | Mark::Close => b"",
