@@ -4,7 +4,7 @@ use Rattle.std.specs.List.{filter, filter_map, cons_option, list_any, position_f
 use Rattle.std.specs.Option.{option_eq, option_map, option_map_or, option_or, option_and_then}
 use Rattle.std.specs.Prelude.{slice_get, is_none}
 use Rattle.std.proofs.lemmas.List.Elements.{All-filter}
-use Rattle.std.proofs.lemmas.List.Kept.{AllPairs-cons}
+use Rattle.std.proofs.lemmas.List.Kept.{AllPairs-filter}
 use Rattle.luf_scope.specs.Fault.{first_fault, name_faults, jump_faults, label_twice, without_label, into_scope, loops_round, break_outside, varargs_outside}
 use Rattle.luf_scope.specs.Jump.{LabelAt, GotoAt, label_by, goto_by, labels_of, gotos_of, is_seen, target, goto_role, label_role, jump_role_of}
 use Rattle.luf_scope.specs.Local.{Spelling, FunctionAt, LocalVariable, declared_by, locals_of, function_by, functions_of, function_of, is_active}
@@ -18,24 +18,16 @@ use Rattle.luf_scope.specs.declared.occurrence.Occurrence.TheVariants.{Reads, As
 use Rattle.luf_scope.specs.inner.Attributes.{has_attribute}
 use Rattle.luf_scope.specs.inner.Laid.{AreLaid, first_at}
 use Rattle.luf_scope.proofs.Counted.{laid_from_order}
-use Rattle.luf_scope.proofs.Marked.{pairs_head, pairs_tail}
 use Rattle.luf_scope.proofs.NoAttribute.{only_varargs}
+use Rattle.luf_scope.proofs.Told.{faults_at}
 
 -- ---- the order
-
-one_pair : {X : Type 0} (R : X → X → Type 0) (b : Bool) (x : X) (xs : List X) → All (R x) xs → AllPairs R xs → AllPairs R (cond b (x ∷ xs) xs)
-one_pair R true x xs first rest = AllPairs-cons R x xs first rest
-one_pair R false x xs first rest = rest
-
-pairs_filter : {X : Type 0} (R : X → X → Type 0) (test : X → Bool) (xs : List X) → AllPairs R xs → AllPairs R (filter test xs)
-pairs_filter R test [] pairs = pairs
-pairs_filter R test (x ∷ xs) pairs = one_pair R (test x) x (filter test xs) (All-filter test (R x) xs (pairs_head R x xs pairs)) (pairs_filter R test xs (pairs_tail R x xs pairs))
 
 pub outline_ordered : (a e c : ℕ) (os : List Occurrence) → AreOrdered a e c os → AreOrdered a e c (outlined os)
 outline_ordered a e c os order = record {
   on = order.on;
   up_to = order.up_to;
-  pairs = pairs_filter Follows is_outline os order.pairs;
+  pairs = AllPairs-filter Follows is_outline os order.pairs;
   within = All-filter is_outline (Within a e c) os order.within;
 }
 
@@ -89,18 +81,48 @@ no_attribute (Assigns name) is = refl
 no_attribute (Field name) is = refl
 no_attribute _ is = absurd cc
 
-module _ (spelled : Spelling) (os : List Occurrence) where
-  functions_same : functions_of (outlined os) ≡ functions_of os
-  functions_same = outline_given function_by no_function os
+functions_same : (os : List Occurrence) → functions_of (outlined os) ≡ functions_of os
+functions_same os = outline_given function_by no_function os
 
+-- the first fault of a word that no name that is used has
+module _ (what : ScopeWhat) (test : Occurrence → Option ℕ) (none : (o : Occurrence) → is_outline o ≡ false → test o ≡ None) where
+  first : (o : Occurrence) (os kept : List Occurrence) (b : Bool) → is_outline o ≡ b → first_at what test kept ≡ first_at what test os → first_at what test (cond b (o ∷ kept) kept) ≡ first_at what test (o ∷ os)
+  first o os kept true is rest = ap (option_or (option_map (λ (t : ℕ). record { token = t; what = what }) (test o))) rest
+  first o os kept false is rest = rest ∙ ap (λ (found : Option ℕ). option_or (option_map (λ (t : ℕ). record { token = t; what = what }) found) (first_at what test os)) (sym (none o is))
+
+  first_same : (os : List Occurrence) → first_at what test (outlined os) ≡ first_at what test os
+  first_same [] = refl
+  first_same (o ∷ os) = first o os (outlined os) (is_outline o) refl (first_same os)
+
+module _ (spelled : Spelling) (os : List Occurrence) where
   locals_same : locals_of spelled (outlined os) ≡ locals_of spelled os
   locals_same = outline_given (declared_by spelled) (no_local spelled) os
 
   labels_same : labels_of spelled (outlined os) ≡ labels_of spelled os
-  labels_same = ap (λ fs. filter_map (label_by spelled fs) (outlined os)) functions_same ∙ outline_given (label_by spelled (functions_of os)) (no_label spelled (functions_of os)) os
+  labels_same = ap (λ fs. filter_map (label_by spelled fs) (outlined os)) (functions_same os) ∙ outline_given (label_by spelled (functions_of os)) (no_label spelled (functions_of os)) os
 
   gotos_same : gotos_of spelled (outlined os) ≡ gotos_of spelled os
-  gotos_same = ap (λ fs. filter_map (goto_by spelled fs) (outlined os)) functions_same ∙ outline_given (goto_by spelled (functions_of os)) (no_goto spelled (functions_of os)) os
+  gotos_same = ap (λ fs. filter_map (goto_by spelled fs) (outlined os)) (functions_same os) ∙ outline_given (goto_by spelled (functions_of os)) (no_goto spelled (functions_of os)) os
+
+  -- ---- the faults of names, where no local variable has an attribute
+
+  no_varargs : (o : Occurrence) → is_outline o ≡ false → varargs_outside spelled os o ≡ None
+  no_varargs (Reads name) is = refl
+  no_varargs (Assigns name) is = refl
+  no_varargs (Field name) is = refl
+  no_varargs _ is = absurd cc
+
+  varargs_same : (o : Occurrence) → varargs_outside spelled (outlined os) o ≡ varargs_outside spelled os o
+  varargs_same (Varargs token) = ap (λ (fs : List FunctionAt). cond (option_map_or (λ f. not f.vararg) (option_and_then (slice_get fs) (function_of fs token)) false) (Some token) None) (functions_same os)
+  varargs_same (Reads name) = refl
+  varargs_same _ = refl
+
+  pub outline_names : (a e c : ℕ) → AreOrdered a e c os → list_any has_attribute (outlined os) ≡ false → first_fault (name_faults spelled (outlined os)) ≡ first_fault (name_faults spelled os)
+  outline_names a e c order none =
+      sym (only_varargs spelled (outlined os) (laid_from_order a e c (outlined os) (outline_ordered a e c os order)) none)
+      ∙ (λ i. first_at VarargOutside (λ o. varargs_same o i) (outlined os))
+      ∙ first_same VarargOutside (varargs_outside spelled os) no_varargs os
+      ∙ only_varargs spelled os (laid_from_order a e c os order) (sym (outline_any has_attribute no_attribute os) ∙ none)
 
   -- ---- the faults of jumps, and where they go
 
@@ -116,11 +138,33 @@ module _ (spelled : Spelling) (os : List Occurrence) where
   no_break (Field name) is = refl
   no_break _ is = absurd cc
 
-  -- the loops round a place, by the functions of the chunk
-  round : List FunctionAt → ℕ → Occurrence → Bool
-  round fs token (Loop from to) = nat_le from token && nat_lt token to && option_eq nat_eq (function_of fs from) (function_of fs token)
-  round fs token _ = false
+  round_same : (token : ℕ) (o : Occurrence) → loops_round spelled (outlined os) token o ≡ loops_round spelled os token o
+  round_same token (Loop from to) = ap (λ (fs : List FunctionAt). nat_le from token && nat_lt token to && option_eq nat_eq (function_of fs from) (function_of fs token)) (functions_same os)
+  round_same token (Reads name) = refl
+  round_same token _ = refl
 
-  break_of : (ℕ → Bool) → Occurrence → Option ℕ
-  break_of held (Break token) = cond (not (held token)) (Some token) None
-  break_of held _ = None
+  loops_same : (token : ℕ) → list_any (loops_round spelled (outlined os) token) (outlined os) ≡ list_any (loops_round spelled os token) os
+  loops_same token = (λ i. list_any (λ o. round_same token o i) (outlined os)) ∙ outline_any (loops_round spelled os token) (no_loop token) os
+
+  break_same : (o : Occurrence) → break_outside spelled (outlined os) o ≡ break_outside spelled os o
+  break_same (Break token) = ap (λ (b : Bool). cond (not b) (Some token) None) (loops_same token)
+  break_same (Reads name) = refl
+  break_same _ = refl
+
+  twice : filter_map (label_twice spelled (outlined os)) (labels_of spelled (outlined os)) ≡ filter_map (label_twice spelled os) (labels_of spelled os)
+  twice = ap (λ (ls : List LabelAt). filter_map (λ (l : LabelAt). cond (list_any (λ (u : LabelAt). nat_lt u.token l.token && is_seen l.function l.token l.name u) ls) (Some l.token) None) ls) labels_same
+
+  missing : filter_map (without_label spelled (outlined os)) (gotos_of spelled (outlined os)) ≡ filter_map (without_label spelled os) (gotos_of spelled os)
+  missing = λ i. filter_map (λ (g : GotoAt). cond (is_none (target (labels_same i) g)) (Some g.token) None) (gotos_same i)
+
+  entering : filter_map (into_scope spelled (outlined os)) (gotos_of spelled (outlined os)) ≡ filter_map (into_scope spelled os) (gotos_of spelled os)
+  entering = λ i. filter_map (λ (g : GotoAt). cond (option_map_or (λ (l : ℕ × LabelAt). list_any (λ (v : LocalVariable). not l.1.at_end && is_active l.1.token v && not (is_active g.token v)) (locals_same i)) (target (labels_same i) g) false) (Some g.token) None) (gotos_same i)
+
+  breaks : filter_map (break_outside spelled (outlined os)) (outlined os) ≡ filter_map (break_outside spelled os) os
+  breaks = (λ i. filter_map (λ o. break_same o i) (outlined os)) ∙ outline_given (break_outside spelled os) no_break os
+
+  pub outline_jumps : jump_faults spelled (outlined os) ≡ jump_faults spelled os
+  outline_jumps = λ i. faults_at LabelTwice (twice i) ++ faults_at NoLabel (missing i) ++ faults_at JumpIntoScope (entering i) ++ faults_at BreakOutside (breaks i)
+
+  pub outline_roles : (token : ℕ) → jump_role_of spelled (outlined os) token ≡ jump_role_of spelled os token
+  outline_roles token = λ i. label_role (position_from (λ (l : LabelAt). nat_eq l.token token) 0 (labels_same i)) (goto_role (labels_same i) (gotos_same i) token)
