@@ -1,6 +1,6 @@
 -- What is read off an outline as off all that a chunk says.
-use Rattle.std.proofs.Common.{◌≡◌, ℕ, ◌+◌, Bool, true, false, ◌&&◌, ◌||◌, not, cond, nat_eq, nat_lt, nat_le, Option, Some, None, List, [], ◌∷◌, ◌++◌, map, All, AllPairs, refl, sym, ap, ◌∙◌}
-use Rattle.std.specs.List.{filter, filter_map, cons_option, list_any, position_from}
+use Rattle.std.proofs.Common.{◌≡◌, ℕ, Bool, true, false, ◌&&◌, ◌||◌, not, cond, nat_eq, nat_lt, nat_le, Option, Some, None, List, [], ◌∷◌, ◌++◌, refl, sym, ap, ◌∙◌}
+use Rattle.std.specs.List.{filter_map, cons_option, list_any, position_from}
 use Rattle.std.specs.Option.{option_eq, option_map, option_map_or, option_or, option_and_then}
 use Rattle.std.specs.Prelude.{slice_get, is_none}
 use Rattle.std.proofs.lemmas.List.Elements.{All-filter}
@@ -10,13 +10,12 @@ use Rattle.luf_scope.specs.Jump.{LabelAt, GotoAt, label_by, goto_by, labels_of, 
 use Rattle.luf_scope.specs.Local.{Spelling, FunctionAt, LocalVariable, declared_by, locals_of, function_by, functions_of, function_of, is_active}
 use Rattle.luf_scope.specs.Order.{Follows, Within, AreOrdered}
 use Rattle.luf_scope.specs.Outline.{is_outline, outlined}
-use Rattle.luf_scope.specs.declared.fault.ScopeBad.{ScopeBad}
 use Rattle.luf_scope.specs.declared.fault.ScopeWhat.{ScopeWhat}
 use Rattle.luf_scope.specs.declared.fault.ScopeWhat.TheVariants.{LabelTwice, NoLabel, JumpIntoScope, BreakOutside, VarargOutside}
 use Rattle.luf_scope.specs.declared.occurrence.Occurrence.{Occurrence}
 use Rattle.luf_scope.specs.declared.occurrence.Occurrence.TheVariants.{Reads, Assigns, Field, Varargs, Loop, Break}
 use Rattle.luf_scope.specs.inner.Attributes.{has_attribute}
-use Rattle.luf_scope.specs.inner.Laid.{AreLaid, first_at}
+use Rattle.luf_scope.specs.inner.Laid.{first_at}
 use Rattle.luf_scope.proofs.Counted.{laid_from_order}
 use Rattle.luf_scope.proofs.NoAttribute.{only_varargs}
 use Rattle.luf_scope.proofs.Told.{faults_at}
