@@ -15,3 +15,4 @@ pub mod Lifted
 pub mod Wrong
 pub mod Roles
 pub mod Final
+pub mod Outlined

@@ -5,6 +5,7 @@ ghost use Rattle.luf_lex.specs.Tokens.{toks_of};
 ghost use Rattle.luf_tree.specs.Grammar.{IsChunk};
 ghost use Rattle.luf_scope.specs.Fault.{first_fault, jump_faults};
 ghost use Rattle.luf_scope.specs.Links.{spelling_in, occurrences_of, IfBad};
+ghost use Rattle.luf_scope.specs.Outline.{AreReadOf};
 ghost use Rattle.luf_goto.specs.Jumps.{AreJumps};
 ghost use Rattle.luf_goto.specs.inner.Sites.{IsInOrder};
 ghost use Rattle.luf_goto.specs.inner.Targets.{targets_in};
@@ -41,7 +42,7 @@ pub fn labels(alloc: Global, src: &[u8], cut: &Cut, c: &Chunk) -> Result<Jumps, 
     labels_read(alloc, src, cut, c, os.as_slice())
 }
 
-/// The same, where what the chunk says is read already.
+/// The same, where what the chunk says is read already, or its outline.
 pub fn labels_read(
     alloc: Global,
     src: &[u8],
@@ -51,7 +52,7 @@ pub fn labels_read(
 ) -> Result<Jumps, ScopeErr>
     requires cut { IsCut src.now cut.now }
     requires tree { IsChunk (toks_of cut.now) c.now }
-    requires read { os.now ≡ occurrences_of c.now }
+    requires read { AreReadOf os.now c.now }
     ensures ok { IfOk result (λ j. AreJumps (spelling_in src.now cut.now) (occurrences_of c.now) j) }
     ensures accepted { IfOk result (λ _. first_fault (jump_faults (spelling_in src.now cut.now) (occurrences_of c.now)) ≡ None) }
     ensures bad { IfErr result (λ e. IfBad e (λ b. first_fault (jump_faults (spelling_in src.now cut.now) (occurrences_of c.now)) ≡ Some b)) }

@@ -24,7 +24,7 @@ use luf_min::minify;
 use luf_parse::parse;
 use luf_proto::{Const, Proto, Upval};
 use luf_quote::{CallStyle, QuoteStyle};
-use luf_scope::{occurrences, resolve};
+use luf_scope::{occurrences, outline, resolve};
 use luf_str::{Quote, requote, value_of};
 use luf_style::{lay_table, style};
 use luf_text::Bytes;
@@ -180,6 +180,8 @@ fn names_read(rt: HostRuntime) -> Result<(), Fail> {
     let source = read(alloc, src, &mut refused)?;
     let said = again!(refused, "occurrences", occurrences(alloc, &source.chunk));
     assert_eq!(rt; said.len(), 48);
+    let outlined = again!(refused, "outline", outline(alloc, &source.chunk));
+    assert_eq!(rt; outlined.len(), 21);
     refused.tell(&rt);
     Ok(())
 }

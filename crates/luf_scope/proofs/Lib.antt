@@ -28,3 +28,4 @@ pub mod Meant
 pub mod Named
 pub mod RoleFound
 pub mod NoAttribute
+pub mod Outlined

@@ -7,7 +7,6 @@ use Rattle.std.proofs.lemmas.Bool.{false≢true}
 use Rattle.luf_scope.specs.Fault.{first_fault, first_of, name_faults, is_constant, unknown_attribute, second_close, constant_assigned, varargs_outside}
 use Rattle.luf_scope.specs.Local.{Spelling, LocalVariable, locals_of, meaning}
 use Rattle.luf_scope.specs.declared.binder.BinderKind.TheVariants as kind
-use Rattle.luf_scope.specs.declared.fault.ScopeBad.{ScopeBad}
 use Rattle.luf_scope.specs.declared.fault.ScopeWhat.{ScopeWhat}
 use Rattle.luf_scope.specs.declared.fault.ScopeWhat.TheVariants.{UnknownAttribute, TwoClose, ConstAssign, VarargOutside}
 use Rattle.luf_scope.specs.declared.occurrence.Occurrence.{Occurrence}

@@ -6,5 +6,6 @@ pub mod Marks
 pub mod Nesting
 pub mod Occurrences
 pub mod Order
+pub mod Outline
 pub mod Role
 pub mod inner

@@ -1,5 +1,6 @@
 -- What only private functions cite, so that nothing here has to be believed.
 pub mod Parts
+pub mod Kept
 pub mod Last
 pub mod Scopes
 pub mod Sweep

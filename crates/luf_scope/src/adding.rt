@@ -1,28 +1,42 @@
-// Occurrences that are added one after another, where no part of the tree has to be entered.
-ghost use Rattle.std.specs.Prelude.{◌≡◌, ◌++◌, ◌∷◌, [], ◌&&◌, not, map, OnOk};
+// Occurrences that are added one after another, where no part of the tree has to be entered: all, or those of an outline.
+ghost use Rattle.std.specs.Prelude.{◌≡◌, ◌∷◌, [], ◌&&◌, not, map, OnOk};
 ghost use Rattle.luf_tree.specs.TokenSyntax.{from_to};
 ghost use Rattle.luf_tree.specs.SyntaxOf.{declared_of, first_of_path, rest_of_path, syntax_of_expr, syntax_of_stat};
 ghost use Rattle.luf_scope.specs.Occurrences.{is_void, declared_locals, loop_variables_of, parameters_of, path_of, method_of};
+ghost use Rattle.luf_scope.specs.inner.Kept.{is_kept, Adds};
 ghost use Rattle.luf_scope.specs.inner.Parts.{plain_variable};
 
 use crate::{Memory, Occurrence};
 use luf_tree::{Declared, Expr, ExprKind, Stat, StatKind};
 
-pub fn add(one: Occurrence, into: &mut Vec<Occurrence>) -> Result<(), Memory>
-    ensures { OnOk result (into.new.items ≡ into.old.items ++ one ∷ []) }
+pub fn add(all: bool, one: Occurrence, into: &mut Vec<Occurrence>) -> Result<(), Memory>
+    ensures { OnOk result (Adds all into.old.items into.new.items (one ∷ [])) }
 {
-    into.push(one)?;
+    if is_kept(all, one) {
+        into.push(one)?;
+    }
     Ok(())
+}
+
+// An outline has no names that are used.
+fn is_kept(all: bool, one: Occurrence) -> bool
+    ensures { result ≡ is_kept all one }
+{
+    match one {
+        Occurrence::Reads(_) | Occurrence::Assigns(_) | Occurrence::Field(_) => all,
+        _ => true,
+    }
 }
 
 // The names of a `local`, which are active from its end.
 pub fn add_locals(
+    all: bool,
     from: u32,
     to: u32,
     names: &[Declared],
     into: &mut Vec<Occurrence>,
 ) -> Result<(), Memory>
-    ensures { OnOk result (into.new.items ≡ into.old.items ++ declared_locals from to (map declared_of names.now)) }
+    ensures { OnOk result (Adds all into.old.items into.new.items (declared_locals from to (map declared_of names.now))) }
 {
     for d in names {
         let one = Occurrence::Local {
@@ -31,81 +45,89 @@ pub fn add_locals(
             from,
             to,
         };
-        add(one, into)?;
+        add(all, one, into)?;
     }
     Ok(())
 }
 
 // The variables of a `for`, which are active in its block.
 pub fn add_loop_variables(
+    all: bool,
     from: u32,
     to: u32,
     names: &[u32],
     into: &mut Vec<Occurrence>,
 ) -> Result<(), Memory>
-    ensures { OnOk result (into.new.items ≡ into.old.items ++ loop_variables_of (from_to from to) names.now) }
+    ensures { OnOk result (Adds all into.old.items into.new.items (loop_variables_of (from_to from to) names.now)) }
 {
     for name in names {
         let name = *name;
-        add(Occurrence::LoopVariable { name, from, to }, into)?;
+        add(all, Occurrence::LoopVariable { name, from, to }, into)?;
     }
     Ok(())
 }
 
 // The parameters of a function, which are active in its block.
 pub fn add_parameters(
+    all: bool,
     from: u32,
     to: u32,
     names: &[u32],
     into: &mut Vec<Occurrence>,
 ) -> Result<(), Memory>
-    ensures { OnOk result (into.new.items ≡ into.old.items ++ parameters_of (from_to from to) names.now) }
+    ensures { OnOk result (Adds all into.old.items into.new.items (parameters_of (from_to from to) names.now)) }
 {
     for name in names {
         let name = *name;
-        add(Occurrence::Parameter { name, from, to }, into)?;
+        add(all, Occurrence::Parameter { name, from, to }, into)?;
     }
     Ok(())
 }
 
-fn add_fields(names: &[u32], into: &mut Vec<Occurrence>) -> Result<(), Memory>
-    ensures { OnOk result (into.new.items ≡ into.old.items ++ map Occurrence.Field names.now) }
+fn add_fields(all: bool, names: &[u32], into: &mut Vec<Occurrence>) -> Result<(), Memory>
+    ensures { OnOk result (Adds all into.old.items into.new.items (map Occurrence.Field names.now)) }
 {
     for name in names {
-        add(Occurrence::Field(*name), into)?;
+        add(all, Occurrence::Field(*name), into)?;
     }
     Ok(())
 }
 
 // What `function` and its name say: the variable that is assigned, or read for its fields.
-pub fn add_path(path: &[u32], method: Option<u32>, into: &mut Vec<Occurrence>) -> Result<(), Memory>
-    ensures { OnOk result (into.new.items ≡ into.old.items ++ path_of (first_of_path path.now) (rest_of_path path.now) method) }
+pub fn add_path(
+    all: bool,
+    path: &[u32],
+    method: Option<u32>,
+    into: &mut Vec<Occurrence>,
+) -> Result<(), Memory>
+    ensures { OnOk result (Adds all into.old.items into.new.items (path_of (first_of_path path.now) (rest_of_path path.now) method)) }
 {
     match (path, method) {
         ([], _) => Ok(()),
-        ([name], None) => add(Occurrence::Assigns(*name), into),
+        ([name], None) => add(all, Occurrence::Assigns(*name), into),
         ([name, fields @ ..], _) => {
-            add(Occurrence::Reads(*name), into)?;
-            add_fields(fields, into)
+            add(all, Occurrence::Reads(*name), into)?;
+            add_fields(all, fields, into)
         }
     }
 }
 
 // The parameter `self` of a method, and the method's name.
 pub fn add_method(
+    all: bool,
     from: u32,
     to: u32,
     method: Option<u32>,
     into: &mut Vec<Occurrence>,
 ) -> Result<(), Memory>
-    ensures { OnOk result (into.new.items ≡ into.old.items ++ method_of (from_to from to) method) }
+    ensures { OnOk result (Adds all into.old.items into.new.items (method_of (from_to from to) method)) }
 {
     match method {
         None => Ok(()),
         Some(name) => {
             let colon = name.saturating_sub(1);
-            add(Occurrence::ImplicitSelf { colon, from, to }, into)?;
-            add(Occurrence::Field(name), into)
+            add(all, Occurrence::ImplicitSelf { colon, from, to }, into)?;
+            add(all, Occurrence::Field(name), into)
         }
     }
 }

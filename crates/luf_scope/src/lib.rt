@@ -28,5 +28,5 @@ pub use links::Links;
 pub use luf_memory::Memory;
 pub use marks::Marks;
 pub use occurrence::Occurrence;
-pub use reading::occurrences;
+pub use reading::{occurrences, outline};
 pub use resolving::{check_names, resolve, resolve_read};

@@ -7,6 +7,7 @@ ghost use Rattle.luf_scope.specs.Fault.{first_fault, name_faults};
 ghost use Rattle.luf_scope.specs.Links.{spelling_in, occurrences_of, AreLinks, IfBad};
 ghost use Rattle.luf_scope.specs.Local.{locals_of};
 ghost use Rattle.luf_scope.specs.Order.{AreOrdered};
+ghost use Rattle.luf_scope.specs.Outline.{outline_of};
 ghost use Rattle.luf_scope.specs.inner.Buckets.{number_in};
 ghost use Rattle.luf_scope.specs.inner.Scopes.{meaning_of, name_number, scopes_from};
 
@@ -56,8 +57,8 @@ pub fn resolve_read(
     links_of(alloc, src, cut, os)
 }
 
-/// Whether the names of a chunk have a fault, where what the chunk says is read already. Of a chunk without attributes no
-/// name is looked up.
+/// Whether the names of a chunk have a fault, where its outline is read already. Of a chunk without attributes no name is
+/// looked up; of another all that it says is read.
 ///
 /// # Errors
 ///
@@ -71,12 +72,12 @@ pub fn check_names(
 ) -> Result<(), ScopeErr>
     requires cut { IsCut src.now cut.now }
     requires tree { IsChunk (toks_of cut.now) c.now }
-    requires read { os.now ≡ occurrences_of c.now }
+    requires read { os.now ≡ outline_of c.now }
     ensures accepted { IfOk result (λ _. first_fault (name_faults (spelling_in src.now cut.now) (occurrences_of c.now)) ≡ None) }
     ensures bad { IfErr result (λ e. IfBad e (λ b. first_fault (name_faults (spelling_in src.now cut.now) (occurrences_of c.now)) ≡ Some b)) }
 {
     if any_attribute(os) {
-        return match resolve_read(alloc, src, cut, c, os) {
+        return match resolve(alloc, src, cut, c) {
             Ok(_) => Ok(()),
             Err(e) => Err(e),
         };

@@ -5,6 +5,7 @@ ghost use Rattle.luf_lex.specs.Cut.{IsCut};
 ghost use Rattle.luf_lex.specs.Tokens.{toks_of};
 ghost use Rattle.luf_scope.specs.Fault.{first_fault, first_of, jump_faults, name_faults};
 ghost use Rattle.luf_scope.specs.Links.{spelling_in, occurrences_of, AreLinks};
+ghost use Rattle.luf_scope.specs.Outline.{outline_of};
 ghost use Rattle.luf_goto.specs.Jumps.{AreJumps};
 ghost use Rattle.luf_work.specs.Limits.{source_limit};
 ghost use Rattle.luf_work.specs.Refusals.{start_of, IsSourceRefusal};
@@ -17,7 +18,8 @@ use luf_lex::{Cut, LexErr, cut};
 use luf_memory::Memory;
 use luf_parse::{ParseErr, parse};
 use luf_scope::{
-    Links, Occurrence, ScopeBad, ScopeErr, check_names, first_of, occurrences, resolve_read,
+    Links, Occurrence, ScopeBad, ScopeErr, check_names, first_of, occurrences, outline,
+    resolve_read,
 };
 use luf_text::{Place, place_of};
 use luf_tree::Chunk;
@@ -124,9 +126,9 @@ fn check_scopes(alloc: Global, src: &[u8], pieces: &Cut, chunk: &Chunk) -> Resul
     ensures refused { IfErr result (λ refusal. refusal ≢ Refusal.Memory → IsSourceRefusal src.now refusal) }
     ensures within { ¬ IsErrOf result Refusal.TooLarge }
 {
-    let occurrences = occurrences(alloc, chunk)?;
-    let name = name_fault(alloc, src, pieces, chunk, occurrences.as_slice())?;
-    let jump = jump_fault(alloc, src, pieces, chunk, occurrences.as_slice())?;
+    let outline = outline(alloc, chunk)?;
+    let name = name_fault(alloc, src, pieces, chunk, outline.as_slice())?;
+    let jump = jump_fault(alloc, src, pieces, chunk, outline.as_slice())?;
     match first_of(name, jump) {
         Some(bad) => Err(Refusal::Scope(place_of_token(src, pieces, bad.token), bad.what)),
         None => Ok(()),
@@ -142,7 +144,7 @@ fn name_fault(
     os: &[Occurrence],
 ) -> Result<Option<ScopeBad>, Memory>
     requires source { IsSource src.now pieces.now chunk.now }
-    requires read { os.now ≡ occurrences_of chunk.now }
+    requires read { os.now ≡ outline_of chunk.now }
     ensures { IfOk result (λ found. found ≡ first_fault (name_faults (spelling_in src.now pieces.now) (occurrences_of chunk.now))) }
 {
     match check_names(alloc, src, pieces, chunk, os) {
@@ -161,7 +163,7 @@ fn jump_fault(
     os: &[Occurrence],
 ) -> Result<Option<ScopeBad>, Memory>
     requires source { IsSource src.now pieces.now chunk.now }
-    requires read { os.now ≡ occurrences_of chunk.now }
+    requires read { os.now ≡ outline_of chunk.now }
     ensures { IfOk result (λ found. found ≡ first_fault (jump_faults (spelling_in src.now pieces.now) (occurrences_of chunk.now))) }
 {
     match labels_read(alloc, src, pieces, chunk, os) {

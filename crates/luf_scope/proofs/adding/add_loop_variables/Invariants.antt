@@ -1,7 +1,8 @@
 use Rattle.std.proofs.Common.{◌≡◌, ◌++◌, drop}
 use Rattle.luf_tree.specs.TokenSyntax.{from_to}
 use Rattle.luf_scope.specs.Occurrences.{loop_variables_of}
+use Rattle.luf_scope.specs.inner.Kept.{kept}
 use Rattle.luf_scope.proofs.adding.add_loop_variables.Given as goal
 
 abbrev pub invariant-loop-name : goal.invariant-loop-name
-invariant-loop-name l = l.into.items ++ loop_variables_of (from_to l.from l.to) (drop l.name-index l.names) ≡ l.fn.into.items ++ loop_variables_of (from_to l.from l.to) (l.names)
+invariant-loop-name l = l.into.items ++ kept l.all (loop_variables_of (from_to l.from l.to) (drop l.name-index l.names)) ≡ l.fn.into.items ++ kept l.all (loop_variables_of (from_to l.from l.to) (l.names))
