@@ -22,7 +22,7 @@ use crate::mode::Mode;
 use crate::openings::filled_gaps;
 use crate::sheet::Sheet;
 use crate::styling::MOST_MARKS;
-use crate::texts::Texts;
+use crate::written::Written;
 use crate::word::text_of;
 use crate::writing::write_tokens;
 use luf_conf::Options;
@@ -81,7 +81,7 @@ pub fn write_styled(
 #[derive(Drop)]
 struct Lines<'a> {
     page: &'a Page,
-    written: &'a Texts,
+    written: &'a Written<'a>,
     gaps: &'a GapList,
 }
 
