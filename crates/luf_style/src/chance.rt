@@ -8,8 +8,8 @@ ghost use Rattle.luf_style.specs.inner.Chances.{noted_chance};
 ghost use Rattle.luf_style.specs.inner.Running.{text_of, first_flat};
 ghost use Rattle.luf_style.specs.inner.Written.{AreTexts, IsText};
 
-use crate::written::Written;
 use crate::word::{first_text, needs_blank, text_of};
+use crate::written::Written;
 use luf_doc::{Chance, Remark};
 use luf_draft::{GapKind, Mark};
 

@@ -12,8 +12,8 @@ ghost use Rattle.luf_style.specs.inner.Written.{AreTexts};
 
 use crate::blanks::bordered;
 use crate::chance::{chance_between, is_deeper};
-use crate::written::Written;
 use crate::word::text_of;
+use crate::written::Written;
 use luf_doc::{Doc, Gap};
 use luf_draft::{GapKind, Mark, Part};
 use luf_gaps::GapNotes;

@@ -6,8 +6,8 @@ ghost use Rattle.luf_style.specs.inner.Tape.{gap_count, with_gaps};
 
 use crate::gap_list::GapList;
 use crate::lead::lead_before_gap;
-use crate::written::Written;
 use crate::word::text_of;
+use crate::written::Written;
 use luf_doc::{Gap, Size};
 use luf_draft::{Mark, Part};
 use luf_memory::Memory;
