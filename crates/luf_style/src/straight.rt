@@ -40,7 +40,8 @@ use std::mem;
 ///
 /// # Errors
 ///
-/// No memory was found: also where the document would have 2^32 marks or more. `into` is as it was.
+/// No memory was found: also where the document would have 2^32 marks or more, or the strings in it that are not written as
+/// they are spelled 2^32 bytes or more. `into` is as it was.
 pub fn write_styled(
     alloc: Global,
     src: &[u8],
