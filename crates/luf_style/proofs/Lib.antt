@@ -29,3 +29,4 @@ pub mod StraightSteps
 pub mod MeasureSteps
 pub mod GapSteps
 pub mod GapListLaws
+pub mod MadeLaws

@@ -10,6 +10,10 @@ pub end_within : (from : ℕ) (ends : List ℕ) (total : ℕ) → AreEnds from e
 end_within from [] total is = omega (arith, is)
 end_within from (end ∷ ends) total (le, more) = let rest = end_within end ends total more in omega (arith, le, rest)
 
+pub texts_length : (from : ℕ) (ends bytes : List ℕ) → length (texts_from from ends bytes) ≡ length ends
+texts_length from [] bytes = refl
+texts_length from (end ∷ ends) bytes = let rest = texts_length end ends bytes in omega (arith, rest)
+
 -- ---- one more
 
 pub ends_more : (from : ℕ) (ends : List ℕ) (total more : ℕ) → AreEnds from ends total → AreEnds from (ends ++ (total + more) ∷ []) (total + more)

@@ -108,19 +108,6 @@ requoted_whole style s counts q old new written single double q_is none (bytes, 
     let same : quote_byte q ≡ quote_in style s = ap quote_byte (q_is ∙ (λ i. chosen style (record { single = single i; double = double i }))) in
     subst (λ (w : List ℕ). IsRequoted s (quote_in style s) w) (sym (written_is ∙ new_is ∙ ap (λ (o : List ℕ). o ++ bytes) none)) (subst (λ n. IsRequoted s n bytes) same is)
 
-pub short_is : (quote : List ℕ → ℕ) (t : Tok) (s w : List ℕ) → t ≡ Short → IsRequoted s (quote s) w → IsWritten quote t s w
-short_is quote t s w is h = subst (λ u. IsWritten quote u s w) (sym is) (one.requoted h)
-
-pub other_is : (quote : List ℕ → ℕ) (t : Tok) (s w : List ℕ) → (t ≡ Short → ⊥) → w ≡ s → IsWritten quote t s w
-other_is quote t s w other is = subst (λ (v : List ℕ). IsWritten quote t s v) (sym is) (one.kept other)
-
--- a token that is found and is no short string
-pub kept_is : (quote : List ℕ → ℕ) (toks : List Tok) (spellings : List (List ℕ)) (n : ℕ) (t u : Tok) (s w : List ℕ) → Some t ≡ slice_get toks n → Some w ≡ slice_get spellings n → (t ≡ Short → ⊥)
-    → slice_get toks n ≡ Some u → slice_get spellings n ≡ Some s → IsWritten quote u s w
-kept_is quote toks spellings n t u s w tok spelling other tok_is spelling_is =
-    let same : t ≡ u = same_Some t u (tok ∙ tok_is) in
-    other_is quote u s w (λ is. other (same ∙ is)) (same_Some w s (spelling ∙ spelling_is))
-
 pub token_spelled : (source : List ℕ) (pieces : List Piece) → IsCut source pieces → (n : ℕ) (t : Tok) (s : List ℕ) → Some t ≡ slice_get (toks_of pieces) n → Some s ≡ slice_get (spellings_of source pieces) n → Spells (Token t) s
 token_spelled source pieces cut n t s tok spelling =
     let here = spelled_at source pieces cut n s (sym spelling) in
@@ -216,46 +203,7 @@ module _ (source : List ℕ) (pieces : List Piece) (cut : IsCut source pieces) (
 pub as_many : (source : List ℕ) (pieces : List Piece) → length (spellings_of source pieces) ≡ length (toks_of pieces)
 as_many source pieces = length-map (tokens_of pieces) (λ p. slice_range source p.span.from p.span.to) ∙ length_tokens pieces
 
--- what is written from here is written from the start
-pub record Writes (quote : List ℕ → ℕ) (toks : List Tok) (spellings : List (List ℕ)) (n : ℕ) (written : List (List ℕ)) : Type 0 where
-  pub goes : (more : List (List ℕ)) → AreWritten quote (drop n toks) (drop n spellings) more → AreWritten quote toks spellings (written ++ more)
-
-pub writes_first : (quote : List ℕ → ℕ) (toks : List Tok) (spellings written : List (List ℕ)) → written ≡ [] → Writes quote toks spellings 0 written
-writes_first quote toks spellings written none = record { goes = λ more r. subst (λ (ws : List (List ℕ)). AreWritten quote toks spellings (ws ++ more)) (sym none) r }
-
-there_is : {A : Type 0} (xs : List A) (n : ℕ) (x : A) → slice_get xs n ≡ Some x → drop n xs ≡ x ∷ drop (n + 1) xs
-there_is xs n x is =
-    let within = slice_get_within xs n x is in
-    rw (add-one, drop-cons xs n x) (ap (λ y. y ∷ drop (suc n) xs) (get_or_from_slice_get xs n x x is))
-
-with_one : (quote : List ℕ → ℕ) {t : Tok} {s w : List ℕ} {toks : List Tok} {spellings written : List (List ℕ)} → IsWritten quote t s w → AreWritten quote toks spellings written
+pub with_one : (quote : List ℕ → ℕ) {t : Tok} {s w : List ℕ} {toks : List Tok} {spellings written : List (List ℕ)} → IsWritten quote t s w → AreWritten quote toks spellings written
     → AreWritten quote (t ∷ toks) (s ∷ spellings) (w ∷ written)
 with_one quote (one.requoted is) more = styled.requoted is more
 with_one quote (one.kept other) more = styled.kept other more
-
-pub writes_more : (quote : List ℕ → ℕ) (toks : List Tok) (spellings : List (List ℕ)) (n : ℕ) (written next : List (List ℕ)) (w : List ℕ) → Writes quote toks spellings n written
-    → n < length toks → length spellings ≡ length toks
-    → ((t : Tok) (s : List ℕ) → slice_get toks n ≡ Some t → slice_get spellings n ≡ Some s → IsWritten quote t s w) → next ≡ written ++ w ∷ [] → Writes quote toks spellings (n + 1) next
-writes_more quote toks spellings n written next w so_far within same is next_is =
-    let tok = found toks n within in
-    let spelling = found spellings n (omega (arith, same, within)) in
-    record {
-      goes = λ more r. subst (λ (ws : List (List ℕ)). AreWritten quote toks spellings ws) (sym (append_assoc written (w ∷ []) more) ∙ ap (λ (ws : List (List ℕ)). ws ++ more) (sym next_is))
-          (so_far.goes (w ∷ more)
-          (subst (λ (ts : List Tok). AreWritten quote ts (drop n spellings) (w ∷ more)) (sym (there_is toks n tok.0 tok.1))
-          (subst (λ (ss : List (List ℕ)). AreWritten quote (tok.0 ∷ drop (n + 1) toks) ss (w ∷ more)) (sym (there_is spellings n spelling.0 spelling.1))
-          (with_one quote (is tok.0 spelling.0 tok.1 spelling.1) r))));
-    }
-  where
-    found : {A : Type 0} (xs : List A) (n : ℕ) → n < length xs → (x : A) × (slice_get xs n ≡ Some x)
-    found [] n low = absurd (omega (arith, low))
-    found (x ∷ xs) zero low = (x, refl)
-    found (x ∷ xs) (suc n) low = found xs n (omega (arith, low))
-
-pub writes_end : (quote : List ℕ → ℕ) (toks : List Tok) (spellings : List (List ℕ)) (n : ℕ) (written : List (List ℕ)) → Writes quote toks spellings n written → length toks ≤ n
-    → length spellings ≡ length toks → AreWritten quote toks spellings written
-writes_end quote toks spellings n written so_far past same =
-    subst (λ (ws : List (List ℕ)). AreWritten quote toks spellings ws) (append-nil written)
-    (so_far.goes []
-    (subst (λ (ts : List Tok). AreWritten quote ts (drop n spellings) []) (sym (drop_all n toks past))
-    (subst (λ (ss : List (List ℕ)). AreWritten quote [] ss []) (sym (drop_all n spellings (omega (arith, same, past)))) styled.nothing)))

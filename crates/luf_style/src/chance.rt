@@ -8,14 +8,14 @@ ghost use Rattle.luf_style.specs.inner.Chances.{noted_chance};
 ghost use Rattle.luf_style.specs.inner.Running.{text_of, first_flat};
 ghost use Rattle.luf_style.specs.inner.Written.{AreTexts, IsText};
 
-use crate::texts::Texts;
 use crate::word::{first_text, needs_blank, text_of};
+use crate::written::Written;
 use luf_doc::{Chance, Remark};
 use luf_draft::{GapKind, Mark};
 
 /// The chance of a gap of this kind with these notes, behind the text of `last` and before the marks `rest`.
 pub(crate) fn chance_between(
-    written: &Texts,
+    written: &Written,
     last: Mark,
     kind: GapKind,
     notes: &[Remark],

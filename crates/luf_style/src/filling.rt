@@ -12,8 +12,8 @@ ghost use Rattle.luf_style.specs.inner.Written.{AreTexts};
 
 use crate::blanks::bordered;
 use crate::chance::{chance_between, is_deeper};
-use crate::texts::Texts;
 use crate::word::text_of;
+use crate::written::Written;
 use luf_doc::{Doc, Gap};
 use luf_draft::{GapKind, Mark, Part};
 use luf_gaps::GapNotes;
@@ -50,7 +50,7 @@ struct Filling {
 /// marks. Time is linear in the marks and the bytes, as between a tight gap of a draft and its next text parts only begin.
 pub(crate) fn fill(
     alloc: Global,
-    written: &Texts,
+    written: &Written,
     marks: &[Mark],
     gaps: Vec<GapNotes>,
 ) -> Result<Doc, Memory>
@@ -138,7 +138,7 @@ impl Filling {
     fn step(
         &mut self,
         alloc: Global,
-        written: &Texts,
+        written: &Written,
         mark: Mark,
         rest: &[Mark],
     ) -> Result<(), Memory>
@@ -155,7 +155,7 @@ impl Filling {
     }
 
     /// Adds a text, and keeps its mark.
-    fn add_text(&mut self, alloc: Global, written: &Texts, mark: Mark) -> Result<(), Memory>
+    fn add_text(&mut self, alloc: Global, written: &Written, mark: Mark) -> Result<(), Memory>
         requires { has_text mark ≡ true }
         ensures { OnOk result ((rest : List Flat) → Steps written.now mark rest self.old self.new) }
     {
@@ -169,7 +169,7 @@ impl Filling {
     fn add_gap(
         &mut self,
         alloc: Global,
-        written: &Texts,
+        written: &Written,
         kind: GapKind,
         rest: &[Mark],
     ) -> Result<(), Memory>
@@ -236,7 +236,7 @@ impl Filling {
 /// A gap of this kind with its notes.
 pub(crate) fn filled_gap(
     alloc: Global,
-    written: &Texts,
+    written: &Written,
     last: Mark,
     kind: GapKind,
     gap: GapNotes,

@@ -23,6 +23,7 @@ mod tests;
 mod texts;
 mod word;
 mod writing;
+mod written;
 
 pub use laws::one_formatted;
 pub use lay::lay_table;

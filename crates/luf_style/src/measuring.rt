@@ -6,8 +6,8 @@ ghost use Rattle.luf_style.specs.inner.Tape.{gap_count, with_gaps};
 
 use crate::gap_list::GapList;
 use crate::lead::lead_before_gap;
-use crate::texts::Texts;
 use crate::word::text_of;
+use crate::written::Written;
 use luf_doc::{Gap, Size};
 use luf_draft::{Mark, Part};
 use luf_memory::Memory;
@@ -37,7 +37,7 @@ struct Measuring {
 /// where something forces. Time is linear in the marks and the bytes.
 pub(crate) fn needs_of(
     alloc: Global,
-    written: &Texts,
+    written: &Written,
     marks: &[Mark],
     gaps: &GapList,
 ) -> Result<Vec<u32>, Memory>
@@ -88,7 +88,7 @@ impl Measuring {
     /// Measures mark `n`, before those behind it, where so many gaps are left. Answers how many are left then.
     fn mark_before(
         &mut self,
-        written: &Texts,
+        written: &Written,
         marks: &[Mark],
         n: usize,
         gaps: &GapList,

@@ -8,7 +8,7 @@ ghost use Rattle.luf_style.specs.inner.Written.{AreTexts};
 
 use crate::filling::{behind, filled_gap};
 use crate::gap_list::GapList;
-use crate::texts::Texts;
+use crate::written::Written;
 use luf_draft::Mark;
 use luf_gaps::GapReader;
 use luf_memory::Memory;
@@ -27,7 +27,7 @@ struct Openings<'a> {
 /// The gaps of marks, in order, with these notes. Time is linear in the marks and the bytes.
 pub(crate) fn filled_gaps(
     alloc: Global,
-    written: &Texts,
+    written: &Written,
     marks: &[Mark],
     notes: GapReader,
 ) -> Result<GapList, Memory>
@@ -58,7 +58,7 @@ impl<'a> Openings<'a> {
     fn step(
         &mut self,
         alloc: Global,
-        written: &Texts,
+        written: &Written,
         mark: Mark,
         rest: &[Mark],
     ) -> Result<(), Memory>

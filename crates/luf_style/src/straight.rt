@@ -22,9 +22,9 @@ use crate::mode::Mode;
 use crate::openings::filled_gaps;
 use crate::sheet::Sheet;
 use crate::styling::MOST_MARKS;
-use crate::texts::Texts;
 use crate::word::text_of;
 use crate::writing::write_tokens;
+use crate::written::Written;
 use luf_conf::Options;
 use luf_doc::Page;
 use luf_draft::{Mark, Part};
@@ -40,7 +40,8 @@ use std::mem;
 ///
 /// # Errors
 ///
-/// No memory was found: also where the document would have 2^32 marks or more. `into` is as it was.
+/// No memory was found: also where the document would have 2^32 marks or more, or the strings in it that are not written as
+/// they are spelled 2^32 bytes or more. `into` is as it was.
 pub fn write_styled(
     alloc: Global,
     src: &[u8],
@@ -81,7 +82,7 @@ pub fn write_styled(
 #[derive(Drop)]
 struct Lines<'a> {
     page: &'a Page,
-    written: &'a Texts,
+    written: &'a Written<'a>,
     gaps: &'a GapList,
 }
 

@@ -25,7 +25,8 @@ pub(crate) const MOST_MARKS: usize = 4294967295;
 ///
 /// # Errors
 ///
-/// No memory was found: also where the document would have 2^32 marks or more, of which no memory can hold the table.
+/// No memory was found: also where the document would have 2^32 marks or more, of which no memory can hold the table, or the
+/// strings in it that are not written as they are spelled 2^32 bytes or more.
 pub fn style(alloc: Global, src: &[u8], cut: &Cut, c: &Chunk, o: &Options) -> Result<Doc, Memory>
     requires cut { IsCut src.now cut.now }
     requires tree { IsChunk (toks_of cut.now) c.now }

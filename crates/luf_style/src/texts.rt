@@ -1,16 +1,19 @@
 // Texts in one buffer.
-ghost use Rattle.std.specs.Prelude.{◌≡◌, ◌++◌, [], ◌∷◌, get_or, IfOk, OnOk};
+ghost use Rattle.std.specs.Prelude.{◌≡◌, ◌≤◌, ◌<◌, ◌+◌, ◌++◌, ℕ, [], ◌∷◌, get_or, length, IfOk, OnOk};
 
 use luf_memory::Memory;
 use std::alloc::Global;
 use std::marker::Model;
 
-/// Texts, one after another in one buffer. Contracts see their list.
+/// The most bytes of all texts together: their ends are numbers of 32 bits.
+const MOST_BYTES: usize = 4294967295;
+
+/// Texts, one after another in one buffer of fewer than 2^32 bytes. Contracts see their list.
 #[derive(Drop)]
 pub(crate) struct Texts {
     bytes: Vec<u8>,
     /// Where each text ends. The first one begins at 0, and each other one where the one before it ends.
-    ends: Vec<usize>,
+    ends: Vec<u32>,
 }
 
 impl Model for Texts {
@@ -35,8 +38,28 @@ impl Texts {
         })
     }
 
+    /// How many there are.
+    pub fn len(&self) -> usize
+        ensures { result ≡ length self.now }
+    {
+        self.ends.len()
+    }
+
+    /// Makes this text `n`, with empty ones before it where there were not so many.
+    pub fn put(&mut self, n: usize, text: &[u8]) -> Result<(), Memory>
+        requires { length self.old ≤ n }
+        ensures few { OnOk result (length self.new ≡ n + 1) }
+        ensures same { OnOk result ((i : ℕ) → i < n → get_or self.new i [] ≡ get_or self.old i []) }
+        ensures text { OnOk result (get_or self.new n [] ≡ text.now) }
+    {
+        while self.len() < n {
+            self.push(b"")?;
+        }
+        self.push(text)
+    }
+
     /// One text more.
-    pub fn push(&mut self, text: &[u8]) -> Result<(), Memory>
+    fn push(&mut self, text: &[u8]) -> Result<(), Memory>
         ensures { OnOk result (self.new ≡ self.old ++ text.now ∷ []) }
     {
         let len = self.bytes.len();
@@ -44,7 +67,12 @@ impl Texts {
             self.bytes.truncate(len);
             return Err(Memory::from(e));
         }
-        if let Err(e) = self.ends.push(self.bytes.len()) {
+        let end = self.bytes.len();
+        if end > MOST_BYTES {
+            self.bytes.truncate(len);
+            return Err(Memory);
+        }
+        if let Err(e) = self.ends.push(end as u32) {
             self.bytes.truncate(len);
             return Err(Memory::from(e));
         }
@@ -59,8 +87,8 @@ impl Texts {
             return b"";
         }
         if n == 0 {
-            return &self.bytes[..self.ends[0]];
+            return &self.bytes[..self.ends[0] as usize];
         }
-        &self.bytes[self.ends[n - 1]..self.ends[n]]
+        &self.bytes[self.ends[n - 1] as usize..self.ends[n] as usize]
     }
 }

@@ -6,16 +6,16 @@ ghost use Rattle.luf_style.specs.inner.Running.{text_of, first_flat, has_text};
 ghost use Rattle.luf_style.specs.inner.Written.{IsText};
 
 use crate::spelling::{sign_spelling, word_spelling};
-use crate::texts::Texts;
+use crate::written::Written;
 use luf_draft::Mark;
 use luf_guard::needs_space;
 
 /// The text of a mark; none where it has none.
-pub(crate) fn text_of(written: &Texts, mark: Mark) -> &[u8]
+pub(crate) fn text_of<'a>(written: &'a Written, mark: Mark) -> &'a [u8]
     ensures { result.now ≡ text_of (shown written.now mark) }
 {
     match mark {
-        Mark::Token(n) => written.get(n.get() as usize),
+        Mark::Token(n) => written.get(n.get()),
         Mark::Word(word) => word_spelling(word),
         Mark::Sign(sign) => sign_spelling(sign),
         Mark::Gap(_) | Mark::Trail | Mark::Open(_) | Mark::Close => b"",
@@ -30,7 +30,7 @@ fn has_text(mark: Mark) -> bool
 }
 
 /// The first text of marks; none where they have none.
-pub(crate) fn first_text<'a>(written: &'a Texts, marks: &[Mark]) -> &'a [u8]
+pub(crate) fn first_text<'a>(written: &'a Written, marks: &[Mark]) -> &'a [u8]
     ensures { result.now ≡ first_flat (map (shown written.now) marks.now) }
 {
     for mark in marks {

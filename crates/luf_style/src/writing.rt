@@ -1,16 +1,17 @@
 // How the tokens of a source are written.
-ghost use Rattle.std.specs.Prelude.{◌≡◌, ◌<◌, ◌^◌, ◌++◌, ℕ, List, [], ◌∷◌, Some, length, slice_get, IfOk, IfSome, OnOk};
+ghost use Rattle.std.specs.Prelude.{◌≡◌, ◌≤◌, ◌<◌, ◌^◌, ℕ, List, Some, None, length, slice_get, IfOk, IfSome, OnOk};
 ghost use Rattle.std.specs.Option.{option_copied};
 ghost use Rattle.luf_str.specs.Requote.{IsRequoted};
 ghost use Rattle.luf_lex.specs.Cut.{IsCut};
-ghost use Rattle.luf_lex.specs.Spelling.{Spells, IsShortString};
+ghost use Rattle.luf_lex.specs.Spelling.{IsShortString};
 ghost use Rattle.luf_lex.specs.Tokens.{toks_of, spellings_of};
 ghost use Rattle.luf_lex.specs.declared.token.Tok.{Tok as Toks};
-ghost use Rattle.luf_lex.specs.declared.token.Kind.TheVariants.{Token};
+ghost use Rattle.luf_lex.specs.declared.token.Tok.TheVariants.{Short};
 ghost use Rattle.luf_style.specs.Styled.{AreWritten};
-ghost use Rattle.luf_style.specs.inner.Written.{IsWritten, quote_in};
+ghost use Rattle.luf_style.specs.inner.Written.{IsMade, quote_in};
 
 use crate::texts::Texts;
+use crate::written::Written;
 use luf_lex::{Cut, Tok};
 use luf_memory::Memory;
 use luf_quote::{QuoteStyle, choose};
@@ -18,25 +19,26 @@ use luf_str::{quotes, requote};
 use luf_text::Bytes;
 use std::alloc::Global;
 
-/// The bytes of each token as it is written: a short string in the quotes that a style wants, any other as it is.
-pub(crate) fn write_tokens(
+/// The bytes of each token as it is written: a short string in the quotes that a style wants, any other as it is. Only a
+/// string that is then another text is made.
+pub(crate) fn write_tokens<'a>(
     alloc: Global,
-    src: &[u8],
-    cut: &Cut,
+    src: &'a [u8],
+    cut: &'a Cut,
     style: QuoteStyle,
-) -> Result<Texts, Memory>
+) -> Result<Written<'a>, Memory>
     requires { IsCut src.now cut.now }
     ensures { IfOk result (λ written. AreWritten (quote_in style) (toks_of cut.now) (spellings_of src.now cut.now) written) }
 {
-    let mut written = Texts::new(alloc, cut.tokens() as usize)?;
+    let mut made = Texts::new(alloc, cut.tokens() as usize)?;
     for n in 0..cut.tokens() {
-        add_text(alloc, src, cut, n, style, &mut written)?;
+        make_text(alloc, src, cut, n, style, &mut made)?;
     }
-    Ok(written)
+    Ok(Written::new(src, cut, made))
 }
 
-/// Adds token `n` as it is written.
-fn add_text(
+/// Makes the text of token `n`, if it is not written as it is spelled.
+fn make_text(
     alloc: Global,
     src: &[u8],
     cut: &Cut,
@@ -44,47 +46,32 @@ fn add_text(
     style: QuoteStyle,
     into: &mut Texts,
 ) -> Result<(), Memory>
-    requires { IsCut src.now cut.now }
-    ensures { OnOk result ((written : List ℕ) × ((tok : Toks) (spelling : List ℕ) → slice_get (toks_of cut.now) n ≡ Some tok → slice_get (spellings_of src.now cut.now) n ≡ Some spelling → IsWritten (quote_in style) tok spelling written) × (into.new ≡ into.old ++ written ∷ [])) }
+    requires cut { IsCut src.now cut.now }
+    requires few { length into.old ≤ n }
+    ensures { OnOk result (IsMade (quote_in style) (toks_of cut.now) (spellings_of src.now cut.now) n into.old into.new) }
 {
-    if let Some(spelling) = kept(src, cut, n) {
-        return into.push(spelling);
+    let Some(spelling) = short_string(src, cut, n) else {
+        return Ok(());
+    };
+    let text = write_string(alloc, spelling, style)?;
+    if text.as_slice() == spelling {
+        return Ok(());
     }
-    let text = write_numbered(alloc, src, cut, n, style)?;
-    into.push(text.as_slice())
+    into.put(n as usize, text.as_slice())
 }
 
-/// How token `n` is spelled, if it is written so in every style.
-fn kept<'a>(src: &'a [u8], cut: &Cut, n: u32) -> Option<&'a [u8]>
+/// How token `n` is spelled, if it is a short string.
+fn short_string<'a>(src: &'a [u8], cut: &Cut, n: u32) -> Option<&'a [u8]>
     requires { IsCut src.now cut.now }
-    ensures { IfSome result (λ s. (quote : List ℕ → ℕ) (tok : Toks) (spelling : List ℕ) → slice_get (toks_of cut.now) n ≡ Some tok → slice_get (spellings_of src.now cut.now) n ≡ Some spelling → IsWritten quote tok spelling s.now) }
+    ensures token { IfSome result (λ s. slice_get (toks_of cut.now) n ≡ Some Short) }
+    ensures spelling { IfSome result (λ s. slice_get (spellings_of src.now cut.now) n ≡ Some s.now) }
+    ensures few { IfSome result (λ s. length s.now < 2 ^ 32) }
+    ensures other { result ≡ None → (tok : Toks) (spelling : List ℕ) → slice_get (toks_of cut.now) n ≡ Some tok → slice_get (spellings_of src.now cut.now) n ≡ Some spelling → tok ≡ Short → ⊥ }
 {
-    let tok = cut.token(n)?;
-    let spelling = cut.spelling(src, n)?;
-    match tok {
-        Tok::Short => None,
-        _ => Some(spelling),
+    if !cut.is_at(n, Tok::Short) {
+        return None;
     }
-}
-
-/// The bytes of token `n` as it is written.
-fn write_numbered(
-    alloc: Global,
-    src: &[u8],
-    cut: &Cut,
-    n: u32,
-    style: QuoteStyle,
-) -> Result<Bytes, Memory>
-    requires { IsCut src.now cut.now }
-    ensures { IfOk result (λ written. (tok : Toks) (spelling : List ℕ) → slice_get (toks_of cut.now) n ≡ Some tok → slice_get (spellings_of src.now cut.now) n ≡ Some spelling → IsWritten (quote_in style) tok spelling written) }
-{
-    let Some(tok) = cut.token(n) else {
-        return Ok(Bytes::from_vec(Vec::new(alloc)));
-    };
-    let Some(spelling) = short_spelling(src, cut, n) else {
-        return Ok(Bytes::from_vec(Vec::new(alloc)));
-    };
-    write_token(alloc, tok, spelling, style)
+    short_spelling(src, cut, n)
 }
 
 /// How token `n` is spelled, in fewer than 2^32 bytes.
@@ -97,17 +84,6 @@ fn short_spelling<'a>(src: &'a [u8], cut: &Cut, n: u32) -> Option<&'a [u8]>
     let from = span.from as usize;
     let to = span.to as usize;
     Some(&src[from..to])
-}
-
-fn write_token(alloc: Global, tok: Tok, spelling: &[u8], style: QuoteStyle) -> Result<Bytes, Memory>
-    requires token { Spells (Token tok) spelling.now }
-    requires size { length spelling.now < 2 ^ 32 }
-    ensures { IfOk result (λ written. IsWritten (quote_in style) tok spelling.now written) }
-{
-    match tok {
-        Tok::Short => write_string(alloc, spelling, style),
-        _ => Ok(Bytes::copy(alloc, spelling)?),
-    }
 }
 
 fn write_string(alloc: Global, spelling: &[u8], style: QuoteStyle) -> Result<Bytes, Memory>
