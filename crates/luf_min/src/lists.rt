@@ -96,7 +96,10 @@ pub(crate) fn add_function(
     add_path(path, into)?;
     match method {
         None => Ok(()),
-        Some(name) => add_all(&[Item::Sign(Sign::Colon), Item::Token(Packed::new(name))], into),
+        Some(name) => add_all(
+            &[Item::Sign(Sign::Colon), Item::Token(Packed::new(name))],
+            into,
+        ),
     }
 }
 
@@ -159,5 +162,8 @@ pub(crate) fn add_label(name: u32, into: &mut Vec<Item>) -> Result<(), Memory>
 pub(crate) fn add_goto(name: u32, into: &mut Vec<Item>) -> Result<(), Memory>
     ensures { OnOk result (into.new.items ≡ into.old.items ++ Item.Word Goto ∷ Item.Token name ∷ []) }
 {
-    add_all(&[Item::Word(Word::Goto), Item::Token(Packed::new(name))], into)
+    add_all(
+        &[Item::Word(Word::Goto), Item::Token(Packed::new(name))],
+        into,
+    )
 }
