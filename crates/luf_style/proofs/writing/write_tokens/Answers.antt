@@ -1,4 +1,4 @@
-use Rattle.std.proofs.Common.{◌∙◌, ◌≤◌, subst, sym, arith}
+use Rattle.std.proofs.Common.{subst, sym, arith}
 use Rattle.luf_lex.specs.Tokens.{toks_of, spellings_of}
 use Rattle.luf_style.specs.Styled.{AreWritten}
 use Rattle.luf_style.specs.inner.Written.{quote_in}

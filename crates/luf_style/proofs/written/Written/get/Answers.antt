@@ -1,4 +1,4 @@
-use Rattle.std.proofs.Common.{[], ap, get_or, sym, ◌∙◌}
+use Rattle.std.proofs.Common.{[], ap, get_or, ◌∙◌}
 use Rattle.luf_lex.specs.Tokens.{spellings_of}
 use Rattle.luf_style.proofs.MadeLaws.{made_at, spelled_there, spelled_nowhere}
 use Rattle.luf_style.proofs.TextLaws.{is_nothing, is_something}
