@@ -1,6 +1,5 @@
 pub mod Answered
 pub mod FormatLemmas
-pub mod HashLemmas
 pub mod ListLemmas
 pub mod MinifyLemmas
 pub mod RefusalLemmas
