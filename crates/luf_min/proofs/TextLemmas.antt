@@ -64,6 +64,10 @@ words_more says items n d inside =
     take_more (map says items) n (says d) (omega (arith, inside, length-map items says))
     ∙ ap (λ w. take n (map says items) ++ w ∷ []) (get_or-map says items n d)
 
+-- the same, where the item is at hand
+pub words_next : {X : Type 0} (says : X → List ℕ) (items : List X) (n : ℕ) (item : X) → n < length items → item ≡ get_or items n item → take (n + 1) (map says items) ≡ take n (map says items) ++ says item ∷ []
+words_next says items n item inside is = words_more says items n item inside ∙ ap (λ x. take n (map says items) ++ says x ∷ []) (sym is)
+
 -- a word behind a space or not is what comes next
 pub spaced_next : (text : List ℕ) (from : ℕ) (a b : List ℕ) (result : Bool) → a ≡ drop from text → IsTrue result ↔ NeedSpace a b → (result ≡ false → StandApart a b) → IsNext (Some (drop from text)) b (with_space result b)
 spaced_next text from a b true same exact stands = subst (λ x. IsNext (Some x) b (codes " " ++ b)) same (next_spaced (exact.0 refl))
