@@ -6,20 +6,12 @@ ghost use Rattle.luf_draft.specs.inner.Runs.{comma_line, elseif_word};
 use crate::mark::{GapKind, Mark};
 use luf_lex::{Sign, Word};
 use luf_memory::Memory;
-use luf_packed::Packed;
 
 pub(crate) fn add(mark: Mark, into: &mut Vec<Mark>) -> Result<(), Memory>
     ensures { OnOk result (into.new.items ≡ into.old.items ++ mark ∷ []) }
 {
     into.push(mark)?;
     Ok(())
-}
-
-/// A token of the source, by its number.
-pub(crate) fn add_token(n: u32, into: &mut Vec<Mark>) -> Result<(), Memory>
-    ensures { OnOk result (into.new.items ≡ into.old.items ++ Mark.Token n ∷ []) }
-{
-    add(Mark::Token(Packed::new(n)), into)
 }
 
 pub(crate) fn add_all(marks: &[Mark], into: &mut Vec<Mark>) -> Result<(), Memory>

@@ -6,7 +6,7 @@ ghost use Rattle.luf_quote.specs.Parens.{keeps_round_string, keeps_round_table};
 ghost use Rattle.luf_draft.specs.inner.Marks.{marks_in_main, marks_in_expression, marks_in_expressions, marks_in_values, marks_in_operation, marks_in_operations, marks_in_suffix, marks_in_suffixes, marks_in_arguments, marks_in_field, marks_in_fields, marks_in_function, marks_in_statement, marks_in_statements, marks_in_arm, marks_in_arms, marks_in_body};
 ghost use Rattle.luf_draft.specs.inner.Wholes.{key_marks, body_to_end, do_to_end, table_marks, return_marks};
 
-use crate::adding::{add, add_comma, add_token, separate_arms, separate_by_comma, separate_fields};
+use crate::adding::{add, add_comma, separate_arms, separate_by_comma, separate_fields};
 use crate::arguments::{close_arguments, gap_in, open_arguments, shape_for};
 use crate::edges::{
     add_between, add_dot, add_equals, add_named, add_power_sign, add_space_word, add_step_sign,
@@ -289,10 +289,10 @@ fn of_expr(cut: &Cut, calls: CallStyle, e: &Expr, into: &mut Vec<Mark>) -> Resul
         ExprKind::Nil => add(Mark::Word(Word::Nil), into),
         ExprKind::True => add(Mark::Word(Word::True), into),
         ExprKind::False => add(Mark::Word(Word::False), into),
-        ExprKind::Number => add_token(e.from, into),
-        ExprKind::Str => add_token(e.from, into),
+        ExprKind::Number => add(Mark::Token(e.from), into),
+        ExprKind::Str => add(Mark::Token(e.from), into),
         ExprKind::Vararg => add(Mark::Sign(Sign::Dots), into),
-        ExprKind::Name => add_token(e.from, into),
+        ExprKind::Name => add(Mark::Token(e.from), into),
         ExprKind::Paren(inner) => {
             open_paren(into)?;
             of_expr(cut, calls, inner.get(), into)?;

@@ -7,7 +7,6 @@ use crate::adding::{add, add_all};
 use crate::mark::{GapKind, Mark, Part};
 use luf_lex::{Sign, Word};
 use luf_memory::Memory;
-use luf_packed::Packed;
 use luf_tree::{Expr, Field};
 
 /// A part that begins with that word.
@@ -138,7 +137,7 @@ pub(crate) fn add_power_sign(sign: u32, into: &mut Vec<Mark>) -> Result<(), Memo
 {
     let marks = [
         Mark::Gap(GapKind::Space),
-        Mark::Token(Packed::new(sign)),
+        Mark::Token(sign),
         Mark::Gap(GapKind::Space),
     ];
     add_all(&marks, into)
@@ -150,7 +149,7 @@ pub(crate) fn add_step_sign(sign: u32, into: &mut Vec<Mark>) -> Result<(), Memor
 {
     let marks = [
         Mark::Gap(GapKind::Line),
-        Mark::Token(Packed::new(sign)),
+        Mark::Token(sign),
         Mark::Gap(GapKind::Space),
     ];
     add_all(&marks, into)
@@ -161,7 +160,7 @@ pub(crate) fn add_named(name: u32, into: &mut Vec<Mark>) -> Result<(), Memory>
     ensures { OnOk result (into.new.items ≡ into.old.items ++ runs.named_field name) }
 {
     let marks = [
-        Mark::Token(Packed::new(name)),
+        Mark::Token(name),
         Mark::Gap(GapKind::Space),
         Mark::Sign(Sign::Assign),
         Mark::Gap(GapKind::Space),
@@ -176,7 +175,7 @@ pub(crate) fn add_dot(name: u32, into: &mut Vec<Mark>) -> Result<(), Memory>
         Mark::Gap(GapKind::Tight),
         Mark::Sign(Sign::Dot),
         Mark::Gap(GapKind::Tight),
-        Mark::Token(Packed::new(name)),
+        Mark::Token(name),
     ];
     add_all(&marks, into)
 }

@@ -4,12 +4,11 @@ ghost use Rattle.luf_tree.specs.SyntaxOf.{declared_of};
 ghost use Rattle.luf_draft.specs.inner.Marks.{listed, before_part, comma_and, dot_marks, token_mark, declared_mark, dots_behind, method_marks};
 ghost use Rattle.luf_draft.specs.inner.Runs as runs;
 
-use crate::adding::{add, add_all, add_token, separate, separate_by_comma};
+use crate::adding::{add, add_all, separate, separate_by_comma};
 use crate::edges::open_spaced;
 use crate::mark::{GapKind, Mark, Part};
 use luf_lex::{Sign, Word};
 use luf_memory::Memory;
-use luf_packed::Packed;
 use luf_tree::Declared;
 
 /// Names with `,` between them.
@@ -19,7 +18,7 @@ fn add_names(names: &[u32], gap: GapKind, into: &mut Vec<Mark>) -> Result<(), Me
     let mut first = true;
     for name in names {
         separate_by_comma(first, gap, into)?;
-        add_token(*name, into)?;
+        add(Mark::Token(*name), into)?;
         first = false;
     }
     Ok(())
@@ -139,7 +138,7 @@ fn add_all_declared(names: &[Declared], into: &mut Vec<Mark>) -> Result<(), Memo
 fn add_declared(d: Declared, into: &mut Vec<Mark>) -> Result<(), Memory>
     ensures { OnOk result (into.new.items ≡ into.old.items ++ declared_mark (declared_of d)) }
 {
-    add_token(d.name, into)?;
+    add(Mark::Token(d.name), into)?;
     match d.attribute {
         None => Ok(()),
         Some(name) => add_all(
@@ -147,7 +146,7 @@ fn add_declared(d: Declared, into: &mut Vec<Mark>) -> Result<(), Memory>
                 Mark::Gap(GapKind::Space),
                 Mark::Sign(Sign::Less),
                 Mark::Gap(GapKind::Tight),
-                Mark::Token(Packed::new(name)),
+                Mark::Token(name),
                 Mark::Gap(GapKind::Tight),
                 Mark::Sign(Sign::Greater),
             ],
@@ -170,7 +169,7 @@ fn add_path(path: &[u32], into: &mut Vec<Mark>) -> Result<(), Memory>
     let mut first = true;
     for name in path {
         separate_by_dot(first, into)?;
-        add_token(*name, into)?;
+        add(Mark::Token(*name), into)?;
         first = false;
     }
     Ok(())
@@ -199,7 +198,7 @@ pub(crate) fn add_method(method: Option<u32>, into: &mut Vec<Mark>) -> Result<()
                 Mark::Gap(GapKind::Tight),
                 Mark::Sign(Sign::Colon),
                 Mark::Gap(GapKind::Tight),
-                Mark::Token(Packed::new(name)),
+                Mark::Token(name),
             ],
             into,
         ),
@@ -216,7 +215,7 @@ pub(crate) fn open_local_function(name: u32, into: &mut Vec<Mark>) -> Result<(),
         Mark::Gap(GapKind::Space),
         Mark::Word(Word::Function),
         Mark::Gap(GapKind::Space),
-        Mark::Token(Packed::new(name)),
+        Mark::Token(name),
     ];
     add_all(&marks, into)
 }
@@ -229,7 +228,7 @@ pub(crate) fn open_for(name: u32, into: &mut Vec<Mark>) -> Result<(), Memory>
         Mark::Open(Part::Sequence),
         Mark::Word(Word::For),
         Mark::Gap(GapKind::Space),
-        Mark::Token(Packed::new(name)),
+        Mark::Token(name),
         Mark::Gap(GapKind::Space),
         Mark::Sign(Sign::Assign),
         Mark::Gap(GapKind::Space),
@@ -252,7 +251,7 @@ pub(crate) fn add_label(name: u32, into: &mut Vec<Mark>) -> Result<(), Memory>
         Mark::Open(Part::Sequence),
         Mark::Sign(Sign::DoubleColon),
         Mark::Gap(GapKind::Tight),
-        Mark::Token(Packed::new(name)),
+        Mark::Token(name),
         Mark::Gap(GapKind::Tight),
         Mark::Sign(Sign::DoubleColon),
         Mark::Close,
@@ -267,7 +266,7 @@ pub(crate) fn add_goto(name: u32, into: &mut Vec<Mark>) -> Result<(), Memory>
         Mark::Open(Part::Sequence),
         Mark::Word(Word::Goto),
         Mark::Gap(GapKind::Space),
-        Mark::Token(Packed::new(name)),
+        Mark::Token(name),
         Mark::Close,
     ];
     add_all(&marks, into)

@@ -1,7 +1,6 @@
 // The marks of a draft: what it holds, one after another.
 
 use luf_lex::{Sign, Word};
-use luf_packed::Packed;
 
 /// What encloses a part of a draft.
 #[derive(Clone, Copy, Debug, PartialEq, Eq)]
@@ -34,10 +33,10 @@ pub enum GapKind {
 }
 
 /// One mark of a draft that is written flat.
-#[derive(Clone, Copy, Debug)]
+#[derive(Clone, Copy, Debug, PartialEq, Eq)]
 pub enum Mark {
     /// A token of the source, by its number.
-    Token(Packed),
+    Token(u32),
     Word(Word),
     Sign(Sign),
     Gap(GapKind),

@@ -12,7 +12,6 @@ use crate::adding::{add, add_all};
 use crate::mark::{GapKind, Mark, Part};
 use luf_lex::{Cut, Sign, Tok, Word};
 use luf_memory::Memory;
-use luf_packed::Packed;
 use luf_tree::{Expr, ExprKind, Stat, StatKind};
 
 /// Whether no statement was written, if none was before this one: one that is a `;` by itself is not written.
@@ -138,11 +137,7 @@ pub(crate) fn open_unary(cut: &Cut, n: u32, into: &mut Vec<Mark>) -> Result<(), 
     ensures { OnOk result (into.new.items ≡ into.old.items ++ unary_opened (toks_of cut.now) n) }
 {
     let gap = behind_sign(token_at(cut, n));
-    let marks = [
-        Mark::Open(Part::Sequence),
-        Mark::Token(Packed::new(n)),
-        Mark::Gap(gap),
-    ];
+    let marks = [Mark::Open(Part::Sequence), Mark::Token(n), Mark::Gap(gap)];
     add_all(&marks, into)
 }
 

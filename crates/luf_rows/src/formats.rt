@@ -3,7 +3,6 @@
 ghost use Rattle.luf_conf.specs.Settings.{AreInRange};
 
 use luf_conf::Options;
-use luf_draft::Mark;
 use luf_quote::{CallStyle, QuoteStyle};
 use luf_work::format_bytes;
 use std::alloc::Global;
@@ -373,11 +372,4 @@ fn widths(rt: HostRuntime) -> Result<(), Fail> {
         ..USUAL
     };
     each(&rt, rt.alloc(), &spaces, &SPACES)
-}
-
-/// A mark has its tag and the bytes of a number, with nothing between.
-#[test]
-fn a_mark_takes_five_bytes(rt: HostRuntime) -> Result<(), Fail> {
-    assert_eq!(rt; size_of::<Mark>(), 5);
-    Ok(())
 }

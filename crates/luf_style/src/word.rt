@@ -15,7 +15,7 @@ pub(crate) fn text_of<'a>(written: &'a Written, mark: Mark) -> &'a [u8]
     ensures { result.now ≡ text_of (shown written.now mark) }
 {
     match mark {
-        Mark::Token(n) => written.get(n.get()),
+        Mark::Token(n) => written.get(n),
         Mark::Word(word) => word_spelling(word),
         Mark::Sign(sign) => sign_spelling(sign),
         Mark::Gap(_) | Mark::Trail | Mark::Open(_) | Mark::Close => b"",
