@@ -33,6 +33,7 @@ impl Model for Packed {
 }
 
 impl Packed {
+    /// A number, packed.
     pub fn new(n: u32) -> Packed
         ensures { result ≡ n }
     {
@@ -41,6 +42,7 @@ impl Packed {
         }
     }
 
+    /// The number.
     pub fn get(self) -> u32
         ensures { result ≡ self }
     {
