@@ -1,4 +1,4 @@
--- That words mean one plan at most, a plan has one job, and a source comes to one status and one text.
+-- That a plan has one job at most, and a source comes to one status and one text.
 use Rattle.std.proofs.Common.{◌≡◌, ◌≢◌, ◌⊎◌, inl, inr, ℕ, suc, List, [], ◌∷◌, ◌++◌, map, length, Option, Some, None, IsSome, refl, sym, ap, ap₂, ◌∙◌, subst, arith}
 use Rattle.std.specs.List.{All}
 use Rattle.std.proofs.lemmas.List.Elements.{All-cons, All-nil}
@@ -7,20 +7,20 @@ use Rattle.luf_conf.specs.Answers.{TellsOptions}
 use Rattle.luf_conf.specs.declared.settings.Options.{Options}
 use Rattle.luf_conf.proofs.OneAnswer.{options_once, one_options, options_not_refused}
 use Rattle.luf_io.specs.Files.{FileMap, IsMissing}
+use Rattle.luf_plan.specs.Plan.{Plan, Mean}
+use Rattle.luf_plan.specs.declared.command.Command.TheVariants as command
+use Rattle.luf_plan.specs.declared.command.Manner.{Manner}
+use Rattle.luf_plan.specs.declared.command.Manner.TheVariants.{Show, Compare, Rewrite}
+use Rattle.luf_plan.proofs.OnePlan.{no_config}
 use Rattle.luf_work.specs.declared.refusal.Refusal.{Refusal}
 use Rattle.luf_work.proofs.FormatLemmas.{one_formatted_text, accepted_not_refused as format_not_refused}
 use Rattle.luf_work.proofs.RefusalLemmas.{accepted_not_refused, source_not_refused}
 use Rattle.luf_work.proofs.ListLemmas.{list_accepted_not_refused}
-use Rattle.luafmt.specs.Command.{command_word, manner_of, Writes, Refuses}
+use Rattle.luafmt.specs.Job.{manner_of, Writes, Refuses}
 use Rattle.luafmt.specs.Config.{AreOptionsOf, HoldsFile, IsJob, IsRefusedConfig, too_large, no_options}
 use Rattle.luafmt.specs.Outcome.{Origin, input, file, name_of, Holds, IsTold, Turn, Comes, refused, shown, unchanged, differs, replaced, rewritten_by, InTurn, no_more, one_more, or_next, status_of}
-use Rattle.luafmt.specs.Plan.{Plan, Mean, IsManner, shows, compares, rewrites, config_in, files_in}
-use Rattle.luafmt.specs.declared.command.Command.{Command}
-use Rattle.luafmt.specs.declared.command.Command.TheVariants as command
-use Rattle.luafmt.specs.declared.command.Job.{Job}
-use Rattle.luafmt.specs.declared.command.Job.TheVariants as job
-use Rattle.luafmt.specs.declared.command.Manner.{Manner}
-use Rattle.luafmt.specs.declared.command.Manner.TheVariants.{Show, Compare, Rewrite}
+use Rattle.luafmt.specs.declared.job.Job.{Job}
+use Rattle.luafmt.specs.declared.job.Job.TheVariants as job
 use Rattle.luafmt.specs.declared.status.Status.{Status}
 use Rattle.luafmt.specs.declared.status.Status.TheVariants.{Done, Differs, Usage, Refused, ReadFault, WriteFault, NoMemory, Config}
 

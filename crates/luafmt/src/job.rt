@@ -1,33 +1,9 @@
-//! The commands, and the jobs that they come to.
-ghost use Rattle.std.specs.Prelude.{◌≡◌, ◌↔◌, IsTrue, MatchOption};
-ghost use Rattle.luafmt.specs.Command.{command_word, manner_of, TakesFiles};
-ghost use Rattle.luafmt.specs.declared.command.Command.{Command as Meant};
+//! The jobs that commands come to.
+ghost use Rattle.std.specs.Prelude.{◌≡◌};
+ghost use Rattle.luafmt.specs.Job.{manner_of};
 
 use luf_conf::Options;
-
-/// What a run is to do.
-#[derive(Clone, Copy, Debug, PartialEq, Eq)]
-pub enum Command {
-    /// Lays out a source.
-    Format,
-    /// Writes the minified text of a source.
-    Minify,
-    /// Says whether a source is accepted.
-    Check,
-    /// Writes the listing of a chunk.
-    List,
-}
-
-/// What becomes of the text of a source.
-#[derive(Clone, Copy, Debug, PartialEq, Eq)]
-pub enum Manner {
-    /// It is written.
-    Show,
-    /// It is compared with the source.
-    Compare,
-    /// It takes the place of the source, where it is another.
-    Rewrite,
-}
+use luf_plan::Manner;
 
 /// What a run does with each of its sources.
 #[derive(Clone, Copy, Debug, PartialEq, Eq)]
@@ -42,41 +18,6 @@ pub enum Job {
     List,
 }
 
-impl Command {
-    // The word that names it.
-    pub(crate) fn word(self) -> &'static str
-        ensures { result.now ≡ command_word self }
-    {
-        match self {
-            Command::Format => "format",
-            Command::Minify => "minify",
-            Command::Check => "check",
-            Command::List => "list",
-        }
-    }
-
-    // Whether so many files may be named.
-    pub(crate) fn takes_files(self, manner: Manner, count: usize) -> bool
-        ensures { IsTrue result ↔ TakesFiles self manner count }
-    {
-        match self {
-            Command::Format => takes_formatted(manner, count),
-            Command::Minify | Command::List => count <= 1,
-            Command::Check => true,
-        }
-    }
-}
-
-// Whether `format` takes so many files.
-fn takes_formatted(manner: Manner, count: usize) -> bool
-    ensures { IsTrue result ↔ TakesFiles Meant.Format manner count }
-{
-    match manner {
-        Manner::Show => count <= 1,
-        Manner::Compare | Manner::Rewrite => count >= 1,
-    }
-}
-
 impl Job {
     // What becomes of its texts.
     pub(crate) fn manner(self) -> Manner
@@ -86,18 +27,5 @@ impl Job {
             Job::Format(_, manner) => manner,
             Job::Minify | Job::Check | Job::List => Manner::Show,
         }
-    }
-}
-
-// The command that a word names, if it names one.
-pub(crate) fn named(word: &[u8]) -> Option<Command>
-    ensures { MatchOption result ((command : Meant) → command_word command ≡ word.now → ⊥) (λ command. command_word command ≡ word.now) }
-{
-    match word {
-        b"format" => Some(Command::Format),
-        b"minify" => Some(Command::Minify),
-        b"check" => Some(Command::Check),
-        b"list" => Some(Command::List),
-        _ => None,
     }
 }
