@@ -7,12 +7,12 @@ use Rattle.luf_conf.proofs.OneAnswer.{options_in_range}
 use Rattle.luf_io.specs.Count.{Rose}
 use Rattle.luf_io.specs.Files.{FileMap, AppendsFile}
 use Rattle.luf_io.specs.Sink.{Appends}
+use Rattle.luf_plan.specs.Plan.{Plan}
 use Rattle.luafmt.specs.Config.{AreOptionsOf, HoldsFile, IsJob, IsRefusedConfig, no_options, options_limit}
 use Rattle.luafmt.specs.Counts.{Counts, ReadsAreCalm}
 use Rattle.luafmt.specs.Line.{line_of, config_line}
 use Rattle.luafmt.specs.Outcome.{origins}
-use Rattle.luafmt.specs.Plan.{Plan}
-use Rattle.luafmt.specs.declared.command.Job.{Job}
+use Rattle.luafmt.specs.declared.job.Job.{Job}
 use Rattle.luafmt.specs.declared.config.NoJob.{NoJob}
 use Rattle.luafmt.specs.declared.config.NoJob.TheVariants.{Refused, Fault, NoMemory as Starving}
 use Rattle.luafmt.specs.declared.status.Status.{Status}

@@ -3,22 +3,23 @@ use Rattle.std.proofs.Common.{◌≡◌, inl, inr, ℕ, ◌≤◌, List, [], ◌
 use Rattle.luf_conf.specs.declared.settings.Options.{Options}
 use Rattle.luf_io.specs.Files.{FileMap}
 use Rattle.luf_io.specs.Sink.{Appends}
+use Rattle.luf_plan.specs.Command.{TakesFiles}
+use Rattle.luf_plan.specs.Plan.{Plan, Mean}
+use Rattle.luf_plan.specs.declared.command.Command.TheVariants as command
+use Rattle.luf_plan.specs.declared.command.Manner.{Manner}
+use Rattle.luf_plan.specs.declared.command.Manner.TheVariants.{Show}
+use Rattle.luf_plan.proofs.OnePlan.{one_plan}
 use Rattle.luf_work.specs.Format.{KeepsSource}
 use Rattle.luf_work.proofs.FormatLemmas.{keeps_source}
-use Rattle.luafmt.specs.Command.{TakesFiles, Writes}
+use Rattle.luafmt.specs.Job.{Writes}
 use Rattle.luafmt.specs.Config.{AreOptionsOf, IsJob}
 use Rattle.luafmt.specs.Keeps.{Keeps}
 use Rattle.luafmt.specs.Outcome.{Origin, Holds, Turn, Comes, refused, shown, unchanged, differs, replaced, InTurn, no_more, one_more, origins, status_of, out_of}
-use Rattle.luafmt.specs.Plan.{Plan, Mean}
-use Rattle.luafmt.specs.declared.command.Command.TheVariants as command
-use Rattle.luafmt.specs.declared.command.Job.{Job}
-use Rattle.luafmt.specs.declared.command.Job.TheVariants as job
-use Rattle.luafmt.specs.declared.command.Manner.{Manner}
-use Rattle.luafmt.specs.declared.command.Manner.TheVariants.{Show}
+use Rattle.luafmt.specs.declared.job.Job.{Job}
+use Rattle.luafmt.specs.declared.job.Job.TheVariants as job
 use Rattle.luafmt.specs.declared.status.Status.{Status}
 use Rattle.luafmt.specs.declared.status.Status.TheVariants.{Done}
 use Rattle.luafmt.specs.inner.Ended.{World, unread, starved, unwritten, Ended, RunEnded, by_turns, by_config, by_line, by_fetch, by_memory}
-use Rattle.luafmt.proofs.Once.{one_plan}
 use Rattle.luafmt.proofs.Runs.{one_origin}
 
 -- ---- one source

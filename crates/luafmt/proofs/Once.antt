@@ -1,4 +1,4 @@
--- That words mean one plan at most, a plan has one job, and a source comes to one status and one text.
+-- That a plan has one job at most, and a source comes to one status and one text.
 use Rattle.std.proofs.Common.{◌≡◌, ◌≢◌, ◌⊎◌, inl, inr, ℕ, suc, List, [], ◌∷◌, ◌++◌, map, length, Option, Some, None, IsSome, refl, sym, ap, ap₂, ◌∙◌, subst, arith}
 use Rattle.std.specs.List.{All}
 use Rattle.std.proofs.lemmas.List.Elements.{All-cons, All-nil}
@@ -7,75 +7,22 @@ use Rattle.luf_conf.specs.Answers.{TellsOptions}
 use Rattle.luf_conf.specs.declared.settings.Options.{Options}
 use Rattle.luf_conf.proofs.OneAnswer.{options_once, one_options, options_not_refused}
 use Rattle.luf_io.specs.Files.{FileMap, IsMissing}
+use Rattle.luf_plan.specs.Plan.{Plan, Mean}
+use Rattle.luf_plan.specs.declared.command.Command.TheVariants as command
+use Rattle.luf_plan.specs.declared.command.Manner.{Manner}
+use Rattle.luf_plan.specs.declared.command.Manner.TheVariants.{Show, Compare, Rewrite}
+use Rattle.luf_plan.proofs.OnePlan.{no_config}
 use Rattle.luf_work.specs.declared.refusal.Refusal.{Refusal}
 use Rattle.luf_work.proofs.FormatLemmas.{one_formatted_text, accepted_not_refused as format_not_refused}
 use Rattle.luf_work.proofs.RefusalLemmas.{accepted_not_refused, source_not_refused}
 use Rattle.luf_work.proofs.ListLemmas.{list_accepted_not_refused}
-use Rattle.luafmt.specs.Command.{command_word, manner_of, Writes, Refuses}
+use Rattle.luafmt.specs.Job.{manner_of, Writes, Refuses}
 use Rattle.luafmt.specs.Config.{AreOptionsOf, HoldsFile, IsJob, IsRefusedConfig, too_large, no_options}
 use Rattle.luafmt.specs.Outcome.{Origin, input, file, name_of, Holds, IsTold, Turn, Comes, refused, shown, unchanged, differs, replaced, rewritten_by, InTurn, no_more, one_more, or_next, status_of}
-use Rattle.luafmt.specs.Plan.{Plan, Mean, IsManner, shows, compares, rewrites, config_in, files_in}
-use Rattle.luafmt.specs.declared.command.Command.{Command}
-use Rattle.luafmt.specs.declared.command.Command.TheVariants as command
-use Rattle.luafmt.specs.declared.command.Job.{Job}
-use Rattle.luafmt.specs.declared.command.Job.TheVariants as job
-use Rattle.luafmt.specs.declared.command.Manner.{Manner}
-use Rattle.luafmt.specs.declared.command.Manner.TheVariants.{Show, Compare, Rewrite}
+use Rattle.luafmt.specs.declared.job.Job.{Job}
+use Rattle.luafmt.specs.declared.job.Job.TheVariants as job
 use Rattle.luafmt.specs.declared.status.Status.{Status}
 use Rattle.luafmt.specs.declared.status.Status.TheVariants.{Done, Differs, Usage, Refused, ReadFault, WriteFault, NoMemory, Config}
-
--- ---- words
-
-abbrev first_byte : List ℕ → ℕ
-first_byte [] = 0
-first_byte (b ∷ bytes) = b
-
--- they begin with letters of their own
-pub one_word : (a b : Command) → command_word a ≡ command_word b → a ≡ b
-one_word command.Format command.Format e = refl
-one_word command.Format command.Minify e = let bad : ◌≡◌ {A = ℕ} 102 109 = ap first_byte e in absurd (omega arith)
-one_word command.Format command.Check e = let bad : ◌≡◌ {A = ℕ} 102 99 = ap first_byte e in absurd (omega arith)
-one_word command.Format command.List e = let bad : ◌≡◌ {A = ℕ} 102 108 = ap first_byte e in absurd (omega arith)
-one_word command.Minify command.Format e = let bad : ◌≡◌ {A = ℕ} 109 102 = ap first_byte e in absurd (omega arith)
-one_word command.Minify command.Minify e = refl
-one_word command.Minify command.Check e = let bad : ◌≡◌ {A = ℕ} 109 99 = ap first_byte e in absurd (omega arith)
-one_word command.Minify command.List e = let bad : ◌≡◌ {A = ℕ} 109 108 = ap first_byte e in absurd (omega arith)
-one_word command.Check command.Format e = let bad : ◌≡◌ {A = ℕ} 99 102 = ap first_byte e in absurd (omega arith)
-one_word command.Check command.Minify e = let bad : ◌≡◌ {A = ℕ} 99 109 = ap first_byte e in absurd (omega arith)
-one_word command.Check command.Check e = refl
-one_word command.Check command.List e = let bad : ◌≡◌ {A = ℕ} 99 108 = ap first_byte e in absurd (omega arith)
-one_word command.List command.Format e = let bad : ◌≡◌ {A = ℕ} 108 102 = ap first_byte e in absurd (omega arith)
-one_word command.List command.Minify e = let bad : ◌≡◌ {A = ℕ} 108 109 = ap first_byte e in absurd (omega arith)
-one_word command.List command.Check e = let bad : ◌≡◌ {A = ℕ} 108 99 = ap first_byte e in absurd (omega arith)
-one_word command.List command.List e = refl
-
-abbrev first_word : List (List ℕ) → List ℕ
-first_word [] = []
-first_word (word ∷ words) = word
-
-pub one_command : (words : List (List ℕ)) (a b : Plan) → Mean words a → Mean words b → a.command ≡ b.command
-one_command words a b m n = one_word a.command b.command (ap first_word (sym m.first ∙ n.first))
-
--- the flags say one manner at most
-pub one_manner : (c : Command) (words : List (List ℕ)) (a b : Manner) → IsManner c words a → IsManner c words b → a ≡ b
-one_manner c words Show Show (shows f g) (shows h k) = refl
-one_manner c words Show Compare (shows f g) (compares h k) = absurd (f h)
-one_manner c words Show Rewrite (shows f g) (rewrites h k) = absurd (g k)
-one_manner c words Compare Show (compares f g) (shows h k) = absurd (h f)
-one_manner c words Compare Compare (compares f g) (compares h k) = refl
-one_manner c words Compare Rewrite (compares f g) (rewrites h k) = absurd (h f)
-one_manner c words Rewrite Show (rewrites f g) (shows h k) = absurd (k g)
-one_manner c words Rewrite Compare (rewrites f g) (compares h k) = absurd (f h)
-one_manner c words Rewrite Rewrite (rewrites f g) (rewrites h k) = refl
-
--- the words mean one plan at most
-pub one_plan : (words : List (List ℕ)) (a b : Plan) → Mean words a → Mean words b → a ≡ b
-one_plan words a b m n =
-    let same : a.command ≡ b.command = one_command words a b m n in
-    let manner : a.manner ≡ b.manner = one_manner b.command words a.manner b.manner (subst (λ (c : Command). IsManner c words a.manner) same m.manner) n.manner in
-    let config : a.config ≡ b.config = m.config ∙ ap (λ (c : Command). config_in c words) same ∙ sym n.config in
-    let files : a.files ≡ b.files = m.files ∙ ap (λ (c : Command). files_in c words) same ∙ sym n.files in
-    λ i. record { command = same i; manner = manner i; config = config i; files = files i }
 
 -- ---- the job of a plan
 
@@ -95,10 +42,6 @@ one_choice None told o p is a b = options_once _ o p a b
 one_choice (Some name) told o p is a b =
     let same : a.0 ≡ b.0 = one_file told name a.0 b.0 (is refl) a.1 b.1 in
     one_options b.0 o p (subst (λ (text : List ℕ). TellsOptions text o) same a.3) b.3
-
--- only `format` has options
-no_config : (words : List (List ℕ)) (plan : Plan) (c : Command) → Mean words plan → plan.command ≡ c → config_in c words ≡ None → plan.config ≡ None
-no_config words plan c m e none = m.config ∙ ap (λ (x : Command). config_in x words) e ∙ none
 
 pub one_job : (plan : Plan) (told : Option FileMap) (a b : Job) → (IsSome plan.config → IsSome told) → IsJob plan told a → IsJob plan told b → a ≡ b
 one_job plan told (job.Format o x) (job.Format p y) is a b =

@@ -4,21 +4,22 @@ use Rattle.std.specs.List.{All}
 use Rattle.luf_io.specs.Count.{Rose}
 use Rattle.luf_io.specs.Files.{FileMap, IsMissing}
 use Rattle.luf_io.specs.Sink.{Appends}
+use Rattle.luf_plan.specs.Command.{TakesFiles}
+use Rattle.luf_plan.specs.Plan.{Plan, Mean, AreNoCommand}
+use Rattle.luf_plan.specs.declared.command.Command.TheVariants as command
+use Rattle.luf_plan.specs.declared.command.Manner.TheVariants.{Show, Rewrite}
+use Rattle.luf_plan.proofs.OnePlan.{one_plan}
 use Rattle.luf_work.specs.Minify.{KeepsProgram}
 use Rattle.luf_work.proofs.MinifyLemmas.{keeps_program}
-use Rattle.luafmt.specs.Command.{TakesFiles}
 use Rattle.luafmt.specs.Config.{IsJob, IsRefusedConfig}
 use Rattle.luafmt.specs.Counts.{Counts, CouldNotRead, of_input, of_fetch, of_missing, CouldNotWrite, of_out, of_errs, of_replace, ReadsAreCalm, WritesAreCalm, NoneRose}
 use Rattle.luafmt.specs.Outcome.{Origin, input, file, Holds, IsTold, Turn, refused, shown, unchanged, differs, replaced, InTurn, no_more, one_more, origins, status_of, out_of, Outcome, outcome_of, config_outcome, IsOutcome, of_usage, of_config, of_turns, IsBegun, begun_nothing, begun_config, begun_turns, AreTold, IsMissingAtTurn, RanThrough}
-use Rattle.luafmt.specs.Plan.{Plan, Mean, AreNoCommand}
-use Rattle.luafmt.specs.declared.command.Command.TheVariants as command
-use Rattle.luafmt.specs.declared.command.Job.{Job}
-use Rattle.luafmt.specs.declared.command.Job.TheVariants as job
-use Rattle.luafmt.specs.declared.command.Manner.TheVariants.{Show, Rewrite}
+use Rattle.luafmt.specs.declared.job.Job.{Job}
+use Rattle.luafmt.specs.declared.job.Job.TheVariants as job
 use Rattle.luafmt.specs.declared.status.Status.{Status}
 use Rattle.luafmt.specs.declared.status.Status.TheVariants.{Done, Usage, ReadFault, WriteFault, NoMemory, Config}
 use Rattle.luafmt.specs.inner.Ended.{World, Through, CannotRead, CannotWrite, unread, starved, unwritten, Ended, RunEnded, by_turns, by_config, by_line, by_fetch, by_memory}
-use Rattle.luafmt.proofs.Once.{one_plan, one_job, refused_no_job, config_held, same_status, IsOfTurn, turns_status, there, told_back, files_told}
+use Rattle.luafmt.proofs.Once.{one_job, refused_no_job, config_held, same_status, IsOfTurn, turns_status, there, told_back, files_told}
 use Rattle.luafmt.proofs.Turns.{nothing_put}
 
 -- ---- the status

@@ -7,16 +7,16 @@ use Rattle.luf_io.specs.Source.{Taken}
 use Rattle.luf_io.specs.Read.{PullsWithin}
 use Rattle.luf_io.specs.declared.read.ReadErr.{ReadErr}
 use Rattle.luf_io.specs.declared.read.ReadErr.TheVariants as read
+use Rattle.luf_plan.specs.declared.command.Manner.TheVariants.{Show, Compare, Rewrite}
 use Rattle.luf_work.specs.Limits.{source_limit}
 use Rattle.luf_work.specs.declared.refusal.Refusal.{Refusal}
 use Rattle.luf_work.specs.declared.refusal.Refusal.TheVariants.{TooLarge, Memory}
-use Rattle.luafmt.specs.Command.{manner_of, Writes, Refuses}
+use Rattle.luafmt.specs.Job.{manner_of, Writes, Refuses}
 use Rattle.luafmt.specs.Counts.{counts}
 use Rattle.luafmt.specs.Line.{line_of, refusal_line, differs_line}
 use Rattle.luafmt.specs.Outcome.{Turn, Comes, refused, shown, unchanged, differs, replaced}
-use Rattle.luafmt.specs.declared.command.Job.{Job}
-use Rattle.luafmt.specs.declared.command.Job.TheVariants as job
-use Rattle.luafmt.specs.declared.command.Manner.TheVariants.{Show, Compare, Rewrite}
+use Rattle.luafmt.specs.declared.job.Job.{Job}
+use Rattle.luafmt.specs.declared.job.Job.TheVariants as job
 use Rattle.luafmt.specs.declared.status.Status.TheVariants.{Done, Differs, Refused}
 
 -- the row of a source that is refused, with its line

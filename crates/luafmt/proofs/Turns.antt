@@ -9,7 +9,7 @@ use Rattle.luf_io.specs.Sink.{Appends}
 use Rattle.luf_io.proofs.Pieces.{Appends-append}
 use Rattle.luafmt.specs.Counts.{Counts, ReadsAreCalm, WritesAreCalm}
 use Rattle.luafmt.specs.Outcome.{Origin, file, name_of, Holds, Turn, Comes, rewritten_by, InTurn, no_more, one_more, origins, or_next, status_of, out_of, errs_of}
-use Rattle.luafmt.specs.declared.command.Job.{Job}
+use Rattle.luafmt.specs.declared.job.Job.{Job}
 use Rattle.luafmt.specs.declared.status.Status.{Status}
 use Rattle.luafmt.specs.declared.status.Status.TheVariants.{Done, Differs, Usage, Refused, ReadFault, WriteFault, NoMemory, Config}
 use Rattle.luafmt.specs.inner.Ended.{World, Through, CannotRead, CannotWrite, Halted, unread, starved, unwritten, Ended}

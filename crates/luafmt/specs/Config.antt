@@ -7,11 +7,11 @@ use Rattle.luf_conf.specs.Answers.{AreOptions, TellsOptions, IsRefused}
 use Rattle.luf_conf.specs.declared.error.ConfErr.{ConfErr}
 use Rattle.luf_conf.specs.declared.settings.Options.{Options}
 use Rattle.luf_io.specs.Files.{FileMap}
+use Rattle.luf_plan.specs.Plan.{Plan}
+use Rattle.luf_plan.specs.declared.command.Command.TheVariants as command
 use Rattle.luafmt.specs.Line.{named, config_line}
-use Rattle.luafmt.specs.Plan.{Plan}
-use Rattle.luafmt.specs.declared.command.Command.TheVariants as command
-use Rattle.luafmt.specs.declared.command.Job.{Job}
-use Rattle.luafmt.specs.declared.command.Job.TheVariants as job
+use Rattle.luafmt.specs.declared.job.Job.{Job}
+use Rattle.luafmt.specs.declared.job.Job.TheVariants as job
 
 -- the most bytes of a file of options
 abbrev pub options_limit : ℕ

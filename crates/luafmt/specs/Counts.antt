@@ -2,9 +2,9 @@
 use Rattle.std.specs.Prelude.{◌≡◌, ◌≢◌, ◌⊎◌, ℕ, List, [], Option, IsSome}
 use Rattle.luf_io.specs.Count.{Rose}
 use Rattle.luf_io.specs.Files.{FileMap}
+use Rattle.luf_plan.specs.Plan.{Plan, Mean}
+use Rattle.luf_plan.specs.declared.command.Manner.TheVariants.{Rewrite}
 use Rattle.luafmt.specs.Outcome.{IsMissingAtTurn}
-use Rattle.luafmt.specs.Plan.{Plan, Mean}
-use Rattle.luafmt.specs.declared.command.Manner.TheVariants.{Rewrite}
 
 -- the counts of the input, of the two calls on files, of out and of errs
 pub record Counts : Type 0 where

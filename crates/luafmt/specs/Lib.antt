@@ -1,9 +1,8 @@
 pub mod Code
-pub mod Command
 pub mod Config
 pub mod Counts
+pub mod Job
 pub mod Keeps
 pub mod Line
 pub mod Outcome
-pub mod Plan
 pub mod inner

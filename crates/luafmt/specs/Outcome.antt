@@ -4,13 +4,13 @@ use Rattle.std.specs.List.{All}
 use Rattle.std.specs.Option.{ForSome}
 use Rattle.std.specs.FinMap.{get, insert}
 use Rattle.luf_io.specs.Files.{FileMap, IsMissing}
+use Rattle.luf_plan.specs.Plan.{Plan, Mean, AreNoCommand}
+use Rattle.luf_plan.specs.declared.command.Manner.TheVariants.{Show, Compare, Rewrite}
 use Rattle.luf_work.specs.declared.refusal.Refusal.{Refusal}
-use Rattle.luafmt.specs.Command.{manner_of, Writes, Refuses}
+use Rattle.luafmt.specs.Job.{manner_of, Writes, Refuses}
 use Rattle.luafmt.specs.Config.{IsJob, IsRefusedConfig}
 use Rattle.luafmt.specs.Line.{line_of, refusal_line, differs_line, usage_line}
-use Rattle.luafmt.specs.Plan.{Plan, Mean, AreNoCommand}
-use Rattle.luafmt.specs.declared.command.Job.{Job}
-use Rattle.luafmt.specs.declared.command.Manner.TheVariants.{Show, Compare, Rewrite}
+use Rattle.luafmt.specs.declared.job.Job.{Job}
 use Rattle.luafmt.specs.declared.status.Status.{Status}
 use Rattle.luafmt.specs.declared.status.Status.TheVariants.{Done, Differs, Usage, Refused, ReadFault, WriteFault, NoMemory, Config}
 

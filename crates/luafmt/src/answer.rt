@@ -2,16 +2,17 @@
 ghost use Rattle.std.specs.Prelude.{◌≡◌, ◌≢◌, ◌⊎◌, ◌++◌, ℕ, List, [], codes, string_bytes, option_map, Some, None, Ok, Err, IfOk, IfErr, OnOk, OnErr, IsErrOf};
 ghost use Rattle.luf_io.specs.Count.{Rose};
 ghost use Rattle.luf_io.specs.Files.{FileMap, IsMissing};
-ghost use Rattle.luafmt.specs.Command.{manner_of, Writes, Refuses};
+ghost use Rattle.luafmt.specs.Job.{manner_of, Writes, Refuses};
 ghost use Rattle.luafmt.specs.Line.{line_of, refusal_line as spec_refusal_line};
 ghost use Rattle.luafmt.specs.Outcome.{input as of_input, file, Holds, Comes};
-ghost use Rattle.luafmt.specs.inner.Planned.{IsInRange};
+ghost use Rattle.luafmt.specs.inner.InRange.{IsInRange};
 
-use crate::command::{Job, Manner};
+use crate::job::Job;
 use crate::line::{differs_line, refusal_line};
 use crate::status::Status;
 use luf_io::{FileFault, Files, ReadErr, Source, read_all};
 use luf_memory::Memory;
+use luf_plan::Manner;
 use luf_work::{Refusal, SOURCE_LIMIT, check_bytes, format_bytes, list_bytes, minify_bytes};
 use std::alloc::Global;
 use std::marker::Model;

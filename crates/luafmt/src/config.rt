@@ -2,16 +2,17 @@
 ghost use Rattle.std.specs.Prelude.{◌≡◌, Some, None, option_map, IfOk, IfErr, OnOk};
 ghost use Rattle.luf_conf.specs.Answers.{TellsOptions};
 ghost use Rattle.luf_conf.specs.Settings.{AreInRange};
+ghost use Rattle.luf_plan.specs.Plan.{planned};
 ghost use Rattle.luafmt.specs.Config.{AreOptionsOf, IsJob};
+ghost use Rattle.luafmt.specs.inner.InRange.{IsInRange};
 ghost use Rattle.luafmt.specs.inner.NoJob.{IsNoJob, IsToldWhy};
-ghost use Rattle.luafmt.specs.inner.Planned.{planned, IsInRange};
 
-use crate::command::{Command, Job};
+use crate::job::Job;
 use crate::line::{config_line, large_line};
-use crate::plan::Plan;
 use luf_conf::{Options, options};
 use luf_io::{FileFault, Files};
 use luf_memory::Memory;
+use luf_plan::{Command, Plan};
 use std::alloc::Global;
 
 // The most bytes of a file of options.

@@ -3,11 +3,10 @@
 #![tactic(auto)]
 
 mod answer;
-mod command;
 mod config;
 mod disk;
+mod job;
 mod line;
-mod plan;
 mod run;
 mod status;
 mod streams;

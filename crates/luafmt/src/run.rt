@@ -2,25 +2,24 @@
 ghost use Rattle.std.specs.Prelude.{◌≡◌, ◌≢◌, ◌⊎◌, ◌∷◌, ℕ, List, [], None, take, map, string_bytes};
 ghost use Rattle.luf_conf.specs.declared.settings.Options.{Options};
 ghost use Rattle.luf_io.specs.Sink.{Appends};
+ghost use Rattle.luf_plan.specs.Plan.{Plan as Planned, planned, Mean, AreNoCommand};
+ghost use Rattle.luf_plan.specs.declared.command.Command.TheVariants as command;
+ghost use Rattle.luf_plan.specs.declared.command.Manner.{Manner};
+ghost use Rattle.luf_plan.specs.declared.command.Manner.TheVariants as manner;
 ghost use Rattle.luf_work.specs.Format.{KeepsSource};
 ghost use Rattle.luf_work.specs.Minify.{KeepsProgram};
 ghost use Rattle.luafmt.specs.Config.{AreOptionsOf};
 ghost use Rattle.luafmt.specs.Counts.{counts, CouldNotRead, CouldNotWrite, ReadsAreCalm, WritesAreCalm, NoneRose};
 ghost use Rattle.luafmt.specs.Keeps.{Keeps};
 ghost use Rattle.luafmt.specs.Outcome.{Origin, Outcome, Turn, Comes, IsOutcome, IsBegun, AreTold, IsMissingAtTurn, RanThrough, Holds, origins};
-ghost use Rattle.luafmt.specs.Plan.{Plan as Planned, Mean, AreNoCommand};
 ghost use Rattle.luafmt.specs.inner.Ended.{world, RunEnded};
-ghost use Rattle.luafmt.specs.inner.Planned.{planned};
-ghost use Rattle.luafmt.specs.declared.command.Command.TheVariants as command;
-ghost use Rattle.luafmt.specs.declared.command.Job.TheVariants as job;
-ghost use Rattle.luafmt.specs.declared.command.Manner.{Manner};
-ghost use Rattle.luafmt.specs.declared.command.Manner.TheVariants as manner;
+ghost use Rattle.luafmt.specs.declared.job.Job.TheVariants as job;
 
 use crate::config::{NoJob, job_of};
-use crate::plan::{NoPlan, Plan, plan_of};
 use crate::status::Status;
 use crate::turn::take_turns;
 use luf_io::{Files, Sink, Source, WriteErr, write_all};
+use luf_plan::{NoPlan, Plan, plan_of};
 use std::alloc::Global;
 
 /// Runs the command that the words after the program's name mean, over its files in the order given, or over the input

@@ -6,13 +6,13 @@ ghost use Rattle.luf_io.specs.Sink.{Appends};
 ghost use Rattle.luafmt.specs.Counts.{counts};
 ghost use Rattle.luafmt.specs.Outcome.{input as of_input, file, or_next, origins, rewritten_by};
 ghost use Rattle.luafmt.specs.inner.Ended.{world, Through, Halted, Ended};
-ghost use Rattle.luafmt.specs.inner.Planned.{IsInRange};
+ghost use Rattle.luafmt.specs.inner.InRange.{IsInRange};
 
 use crate::answer::{Answer, Halt, answer_file, answer_input};
-use crate::command::Job;
-use crate::plan::Plan;
+use crate::job::Job;
 use crate::status::Status;
 use luf_io::{FileFault, Files, Sink, Source, WriteErr, write_all};
+use luf_plan::Plan;
 use std::alloc::Global;
 
 // Takes the sources of a plan in turn, and answers how the run ends.

@@ -3,14 +3,14 @@ use Rattle.std.specs.Prelude.{◌≡◌, ◌⊎◌, ℕ, List, ◌∷◌, ◌++�
 use Rattle.luf_io.specs.Count.{Rose}
 use Rattle.luf_io.specs.Files.{FileMap, IsMissing}
 use Rattle.luf_io.specs.Sink.{Appends}
-use Rattle.luafmt.specs.Command.{manner_of}
+use Rattle.luf_plan.specs.Plan.{Plan}
+use Rattle.luf_plan.specs.declared.command.Manner.TheVariants.{Rewrite}
+use Rattle.luafmt.specs.Job.{manner_of}
 use Rattle.luafmt.specs.Config.{IsJob, IsRefusedConfig}
 use Rattle.luafmt.specs.Counts.{Counts, ReadsAreCalm, WritesAreCalm}
 use Rattle.luafmt.specs.Line.{line_of}
 use Rattle.luafmt.specs.Outcome.{Origin, input, file, Turn, InTurn, origins, status_of, out_of, errs_of}
-use Rattle.luafmt.specs.Plan.{Plan}
-use Rattle.luafmt.specs.declared.command.Job.{Job}
-use Rattle.luafmt.specs.declared.command.Manner.TheVariants.{Rewrite}
+use Rattle.luafmt.specs.declared.job.Job.{Job}
 use Rattle.luafmt.specs.declared.status.Status.{Status}
 use Rattle.luafmt.specs.declared.status.Status.TheVariants.{ReadFault, WriteFault, NoMemory, Config}
 

@@ -1,6 +1,6 @@
 use Rattle.std.proofs.Common.{inl, [], Err, refl, ap, ◌∙◌}
+use Rattle.luf_plan.specs.Plan.{planned}
 use Rattle.luafmt.specs.Outcome.{outcome_of, usage_outcome, of_usage, begun_nothing, begun_usage}
-use Rattle.luafmt.specs.inner.Planned.{planned}
 use Rattle.luafmt.proofs.Turns.{nothing_put}
 use Rattle.luafmt.proofs.Keeping.{keeps_turn, formatted_ended}
 use Rattle.luafmt.proofs.Runs.{outcome_ended, no_usage, read_fault_ended, write_fault_ended, read_calm_ended, write_calm_ended, stopped_ended, part_ended, complete_ended, missing_ended, text_ended, usage_complete, usage_missing}

@@ -1,7 +1,7 @@
 use Rattle.std.proofs.Common.{rules, ◌≡◌, refl, ◌∙◌, subst}
+use Rattle.luf_plan.specs.Plan.{planned}
 use Rattle.luafmt.specs.inner.Ended.{by_fetch, by_memory}
 use Rattle.luafmt.specs.inner.NoJob.{IsNoJob}
-use Rattle.luafmt.specs.inner.Planned.{planned}
 use Rattle.luafmt.proofs.Configs.{same_world, turned, told_config, untold_config}
 use Rattle.luafmt.proofs.Runs.{turns_no_config}
 use Rattle.luafmt.proofs.Sources.{same_counts}

@@ -1,38 +1,43 @@
-//! What the words of a run mean.
+// What the words of a run mean.
 ghost use Rattle.std.specs.Prelude.{◌≡◌, ◌≢◌, ◌↔◌, [], map, option_map, codes, false, string_bytes, unwrap_or, Some, IfOk, IsErrOf, IsTrue, MatchOption};
 ghost use Rattle.clap.specs.Faults.{fault_of};
 ghost use Rattle.clap.specs.Matches.{first_value, found_of, matched_of, raw_values};
 ghost use Rattle.clap.specs.Simple.{app_of, with_rule};
 ghost use Rattle.clap.specs.Walk.{rule_of};
-ghost use Rattle.luafmt.specs.declared.command.Command.{Command as Meant};
-ghost use Rattle.luafmt.specs.Plan.{Mean, AreNoCommand, HasFlag, config_in, file_rule, files_in, flag_rule, of_format, simple_command, with_flags as spec_with_flags};
-ghost use Rattle.luafmt.specs.inner.Planned.{planned, IsChosen, NothingChosen};
+ghost use Rattle.luf_plan.specs.declared.command.Command.{Command as Meant};
+ghost use Rattle.luf_plan.specs.Plan.{planned, Mean, AreNoCommand, HasFlag, config_in, file_rule, files_in, flag_rule, of_format, simple_command, with_flags as spec_with_flags};
+ghost use Rattle.luf_plan.specs.inner.Chosen.{IsChosen, NothingChosen};
 
 use crate::command::{Command, Manner, named};
 use clap::error::ErrorKind;
 use clap::{Arg, ArgAction, ArgMatches, Command as Simple, Error};
 use std::alloc::{AllocError, Global};
 
-// A command, what becomes of its texts, the name of a file of options, and the names of its files. Where none is named, it
-// reads the input.
+/// A command, what becomes of its texts, the name of a file of options, and the names of its files. Where none is named, it
+/// reads the input.
 #[derive(Drop)]
-pub(crate) struct Plan<'a> {
-    pub(crate) command: Command,
-    pub(crate) manner: Manner,
-    pub(crate) config: Option<&'a str>,
-    pub(crate) files: Vec<&'a str>,
+pub struct Plan<'a> {
+    /// What the run is to do.
+    pub command: Command,
+    /// What becomes of its texts.
+    pub manner: Manner,
+    /// The name of a file of options.
+    pub config: Option<&'a str>,
+    /// The names of its files.
+    pub files: Vec<&'a str>,
 }
 
-// Why there is no plan.
+/// Why there is no plan.
 #[derive(Clone, Copy, Debug, PartialEq, Eq)]
-pub(crate) enum NoPlan {
-    // The words mean none.
+pub enum NoPlan {
+    /// The words mean none.
     Usage,
+    /// No memory was found.
     NoMemory,
 }
 
 impl From<AllocError> for NoPlan {
-    ghost use Rattle.luafmt.specs.declared.plan.NoPlan.TheVariants.{NoMemory};
+    ghost use Rattle.luf_plan.specs.declared.plan.NoPlan.TheVariants.{NoMemory};
 
     ghost from_gives = { λ _ e. e ≡ NoMemory };
 
@@ -45,7 +50,7 @@ impl From<Error> for NoPlan {
     ghost use Rattle.std.specs.Prelude.{◌↔◌};
     ghost use Rattle.clap.specs.Words.{kind_of};
     ghost use Rattle.clap.specs.declared.error.kind.ErrorKind.TheVariants.{OutOfMemory};
-    ghost use Rattle.luafmt.specs.declared.plan.NoPlan.TheVariants.{NoMemory};
+    ghost use Rattle.luf_plan.specs.declared.plan.NoPlan.TheVariants.{NoMemory};
 
     ghost from_gives = { λ error e. (e ≡ NoMemory) ↔ (kind_of error ≡ OutOfMemory) };
 
@@ -57,8 +62,8 @@ impl From<Error> for NoPlan {
     }
 }
 
-// The plan that the words mean.
-pub(crate) fn plan_of<'a>(alloc: Global, words: &'a [String]) -> Result<Plan<'a>, NoPlan>
+/// The plan that the words mean.
+pub fn plan_of<'a>(alloc: Global, words: &'a [String]) -> Result<Plan<'a>, NoPlan>
     ensures plan { IfOk result (λ plan. Mean (map string_bytes words.entry.now) (planned plan.command plan.manner plan.config plan.files.items)) }
     ensures usage { IsErrOf result NoPlan.Usage → AreNoCommand (map string_bytes words.entry.now) }
 {

@@ -1,8 +1,9 @@
--- The commands and the jobs: the word of each command, how many files it takes, and what each job accepts, writes and
--- refuses. Our own rules.
-use Rattle.std.specs.Prelude.{◌≡◌, ℕ, ◌≤◌, List, [], length, codes}
+-- The jobs: what becomes of the text of each, and what each accepts, writes and refuses. Our own rules.
+use Rattle.std.specs.Prelude.{◌≡◌, ℕ, ◌≤◌, List, [], length}
 use Rattle.luf_min.specs.Minified.{IsMinified}
 use Rattle.luf_style.specs.Styled.{IsFormatted, choices_of}
+use Rattle.luf_plan.specs.declared.command.Manner.{Manner}
+use Rattle.luf_plan.specs.declared.command.Manner.TheVariants as manner
 use Rattle.luf_work.specs.Format.{IsFormatAccepted, IsFormatRefusal}
 use Rattle.luf_work.specs.Limits.{source_limit, text_limit}
 use Rattle.luf_work.specs.List.{IsListing, IsListAccepted, IsListRefusal}
@@ -10,27 +11,8 @@ use Rattle.luf_work.specs.Minify.{IsMinifyAccepted, IsMinifyRefusal}
 use Rattle.luf_work.specs.Refusals.{IsSourceRefusal}
 use Rattle.luf_work.specs.Source.{IsAccepted}
 use Rattle.luf_work.specs.declared.refusal.Refusal.{Refusal}
-use Rattle.luafmt.specs.declared.command.Command.{Command}
-use Rattle.luafmt.specs.declared.command.Command.TheVariants as command
-use Rattle.luafmt.specs.declared.command.Job.{Job}
-use Rattle.luafmt.specs.declared.command.Job.TheVariants as job
-use Rattle.luafmt.specs.declared.command.Manner.{Manner}
-use Rattle.luafmt.specs.declared.command.Manner.TheVariants as manner
-
-abbrev pub command_word : Command → List ℕ
-command_word command.Format = codes "format"
-command_word command.Minify = codes "minify"
-command_word command.Check = codes "check"
-command_word command.List = codes "list"
-
--- How many files may be named behind the word, by what becomes of their texts: any number, one at most, or one at least.
-abbrev pub TakesFiles : Command → Manner → ℕ → Type 0
-TakesFiles command.Format manner.Show count = count ≤ 1
-TakesFiles command.Format manner.Compare count = 1 ≤ count
-TakesFiles command.Format manner.Rewrite count = 1 ≤ count
-TakesFiles command.Minify _ count = count ≤ 1
-TakesFiles command.Check _ count = Unit {0}
-TakesFiles command.List _ count = count ≤ 1
+use Rattle.luafmt.specs.declared.job.Job.{Job}
+use Rattle.luafmt.specs.declared.job.Job.TheVariants as job
 
 -- what becomes of the text of a job
 abbrev pub manner_of : Job → Manner

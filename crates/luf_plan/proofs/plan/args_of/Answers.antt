@@ -1,8 +1,8 @@
 use Rattle.std.proofs.Common.{◌≡◌, codes, refl, ap, ◌∙◌}
 use Rattle.clap.specs.Simple.{App, app_of, new_app, with_rule}
-use Rattle.luafmt.specs.Plan.{file_rule, simple_command, with_flags}
-use Rattle.luafmt.proofs.SimpleCommand.{taken_by, refused_by, files_by, value_by, flag_by}
-use Rattle.luafmt.proofs.plan.args_of.Goals as goal
+use Rattle.luf_plan.specs.Plan.{file_rule, simple_command, with_flags}
+use Rattle.luf_plan.proofs.SimpleCommand.{taken_by, refused_by, files_by, value_by, flag_by}
+use Rattle.luf_plan.proofs.plan.args_of.Goals as goal
 
 pub returns-in-Err-clause-usage : goal.returns-in-Err-clause-usage
 returns-in-Err-clause-usage c = λ is.

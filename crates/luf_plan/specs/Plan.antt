@@ -1,16 +1,17 @@
 -- What the words of a run mean: a command, what becomes of its texts, its file of options, and the files that it is to
 -- read. Our own rules.
-use Rattle.std.specs.Prelude.{◌≡◌, ℕ, List, [], ◌∷◌, length, codes, Option, Some, None, unwrap_or}
+use Rattle.std.specs.Prelude.{◌≡◌, ℕ, List, [], ◌∷◌, length, map, codes, Option, Some, None, option_map, unwrap_or}
+use Rattle.std.specs.Borrow.{Bor}
 use Rattle.clap.specs.Lexer.{usize_max}
 use Rattle.clap.specs.Walk.{Rule, all_of, first_of}
 use Rattle.clap.specs.Simple.{App, matches_of, new_app, new_rule, with_rule}
 use Rattle.clap.specs.Faults.{fault_of}
 use Rattle.clap.specs.declared.builder.action.ArgAction.TheVariants.{SetTrue}
-use Rattle.luafmt.specs.Command.{command_word, TakesFiles}
-use Rattle.luafmt.specs.declared.command.Command.{Command}
-use Rattle.luafmt.specs.declared.command.Command.TheVariants as command
-use Rattle.luafmt.specs.declared.command.Manner.{Manner}
-use Rattle.luafmt.specs.declared.command.Manner.TheVariants.{Show, Compare, Rewrite}
+use Rattle.luf_plan.specs.Command.{command_word, TakesFiles}
+use Rattle.luf_plan.specs.declared.command.Command.{Command}
+use Rattle.luf_plan.specs.declared.command.Command.TheVariants as command
+use Rattle.luf_plan.specs.declared.command.Manner.{Manner}
+use Rattle.luf_plan.specs.declared.command.Manner.TheVariants.{Show, Compare, Rewrite}
 
 -- A command, what becomes of its texts, the name of a file of options, and the names of its files: where none is named, it
 -- reads the input.
@@ -19,6 +20,15 @@ pub record Plan : Type 0 where
   pub manner : Manner
   pub config : Option (List ℕ)
   pub files : List (List ℕ)
+
+-- a plan as the program holds it
+abbrev pub planned : Command → Manner → Option (Bor (List ℕ)) → List (Bor (List ℕ)) → Plan
+planned command manner config files = record {
+  command = command;
+  manner = manner;
+  config = option_map (λ s. s.now) config;
+  files = map (λ s. s.now) files;
+}
 
 -- the option --config, with one value
 abbrev pub config_rule : Rule

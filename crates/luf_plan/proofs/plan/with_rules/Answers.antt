@@ -1,6 +1,6 @@
 use Rattle.std.proofs.Common.{rules}
-use Rattle.luafmt.proofs.SimpleCommand.{ranged, flags_and_files}
-use Rattle.luafmt.proofs.plan.with_rules.Goals as goal
+use Rattle.luf_plan.proofs.SimpleCommand.{ranged, flags_and_files}
+use Rattle.luf_plan.proofs.plan.with_rules.Goals as goal
 
 pub returns-in_ok-with_flags-in-Format : goal.returns-in_ok-with_flags-in-Format
 returns-in_ok-with_flags-in-Format c =

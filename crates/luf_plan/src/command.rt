@@ -1,9 +1,7 @@
-//! The commands, and the jobs that they come to.
+// The commands, their words, and how many files each takes.
 ghost use Rattle.std.specs.Prelude.{◌≡◌, ◌↔◌, IsTrue, MatchOption};
-ghost use Rattle.luafmt.specs.Command.{command_word, manner_of, TakesFiles};
-ghost use Rattle.luafmt.specs.declared.command.Command.{Command as Meant};
-
-use luf_conf::Options;
+ghost use Rattle.luf_plan.specs.Command.{command_word, TakesFiles};
+ghost use Rattle.luf_plan.specs.declared.command.Command.{Command as Meant};
 
 /// What a run is to do.
 #[derive(Clone, Copy, Debug, PartialEq, Eq)]
@@ -27,19 +25,6 @@ pub enum Manner {
     Compare,
     /// It takes the place of the source, where it is another.
     Rewrite,
-}
-
-/// What a run does with each of its sources.
-#[derive(Clone, Copy, Debug, PartialEq, Eq)]
-pub enum Job {
-    /// Lays it out under these options.
-    Format(Options, Manner),
-    /// Writes its minified text.
-    Minify,
-    /// Says whether it is accepted.
-    Check,
-    /// Writes its listing.
-    List,
 }
 
 impl Command {
@@ -74,18 +59,6 @@ fn takes_formatted(manner: Manner, count: usize) -> bool
     match manner {
         Manner::Show => count <= 1,
         Manner::Compare | Manner::Rewrite => count >= 1,
-    }
-}
-
-impl Job {
-    // What becomes of its texts.
-    pub(crate) fn manner(self) -> Manner
-        ensures { result ≡ manner_of self }
-    {
-        match self {
-            Job::Format(_, manner) => manner,
-            Job::Minify | Job::Check | Job::List => Manner::Show,
-        }
     }
 }
 

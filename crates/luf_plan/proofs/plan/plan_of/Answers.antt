@@ -1,8 +1,8 @@
 use Rattle.std.proofs.Common.{rules, ◌≡◌, true, length, vec_len, string_bytes, sym, ap, ◌∙◌, subst}
 use Rattle.std.specs.Option.{option_copied}
-use Rattle.luafmt.specs.Command.{TakesFiles}
-use Rattle.luafmt.proofs.PlanLemmas.{meant, not_taken, true_false, words_begin}
-use Rattle.luafmt.proofs.plan.plan_of.Goals as goal
+use Rattle.luf_plan.specs.Command.{TakesFiles}
+use Rattle.luf_plan.proofs.PlanLemmas.{meant, not_taken, true_false, words_begin}
+use Rattle.luf_plan.proofs.plan.plan_of.Goals as goal
 
 pub returns-then-takes_files-clause-plan : goal.returns-then-takes_files-clause-plan
 returns-then-takes_files-clause-plan c =

@@ -4,13 +4,13 @@ use Rattle.std.specs.Prelude.{◌↔◌, IsTrue}
 use Rattle.std.specs.Borrow.{Bor}
 use Rattle.std.proofs.lemmas.List.{length-map}
 use Rattle.clap.specs.Faults.{fault_of}
-use Rattle.luafmt.specs.Command.{command_word, TakesFiles}
-use Rattle.luafmt.specs.Plan.{Mean, AreNoCommand, IsManner, shows, compares, rewrites, HasFlag, config_in, files_in, simple_command}
-use Rattle.luafmt.specs.declared.command.Command.{Command}
-use Rattle.luafmt.specs.declared.command.Manner.{Manner}
-use Rattle.luafmt.specs.declared.command.Manner.TheVariants.{Show, Compare, Rewrite}
-use Rattle.luafmt.specs.inner.Planned.{planned, IsChosen, NothingChosen}
-use Rattle.luafmt.proofs.Once.{one_word, one_manner}
+use Rattle.luf_plan.specs.Command.{command_word, TakesFiles}
+use Rattle.luf_plan.specs.Plan.{planned, Mean, AreNoCommand, IsManner, shows, compares, rewrites, HasFlag, config_in, files_in, simple_command}
+use Rattle.luf_plan.specs.declared.command.Command.{Command}
+use Rattle.luf_plan.specs.declared.command.Manner.{Manner}
+use Rattle.luf_plan.specs.declared.command.Manner.TheVariants.{Show, Compare, Rewrite}
+use Rattle.luf_plan.specs.inner.Chosen.{IsChosen, NothingChosen}
+use Rattle.luf_plan.proofs.OnePlan.{one_word, one_manner}
 
 abbrev first_of_words : List (List ℕ) → List ℕ
 first_of_words [] = []

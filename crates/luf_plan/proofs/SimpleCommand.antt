@@ -20,9 +20,9 @@ use Rattle.clap.specs.declared.error.kind.ErrorKind.TheVariants as kind
 use Rattle.clap.specs.declared.parser.matches.ArgMatches.{ArgMatches}
 use Rattle.clap.proofs.OnLiterals.{clap_on_literals}
 use Rattle.clap.proofs.WalkLemmas.{first_value-rows, raw_values-rows}
-use Rattle.luafmt.specs.Plan.{file_rule, flag_rule, simple_command, files_in, of_format, value_in, HasFlag, with_flags}
-use Rattle.luafmt.specs.declared.command.Command.{Command}
-use Rattle.luafmt.specs.declared.command.Command.TheVariants as command
+use Rattle.luf_plan.specs.Plan.{file_rule, flag_rule, simple_command, files_in, of_format, value_in, HasFlag, with_flags}
+use Rattle.luf_plan.specs.declared.command.Command.{Command}
+use Rattle.luf_plan.specs.declared.command.Command.TheVariants as command
 
 -- each such command is simple, and FILE has no rule on another argument
 pub simple : (c : Command) → is_simple (simple_command c) ≡ true

@@ -1,0 +1,3 @@
+pub mod OnePlan
+pub mod PlanLemmas
+pub mod SimpleCommand
