@@ -35,8 +35,9 @@ fn check_pieces(
 ) -> Result<(), Fail> {
     assert!(rt; src.len() < 1000);
     let cut = cut(alloc, src)?;
-    assert_eq!(rt; cut.pieces().len(), want.len(), "in {src:?}");
-    for (piece, (kind, to)) in cut.pieces().iter().zip(want) {
+    let pieces = cut.pieces(alloc)?;
+    assert_eq!(rt; pieces.len(), want.len(), "in {src:?}");
+    for (piece, (kind, to)) in pieces.iter().zip(want) {
         assert_eq!(rt; (piece.kind, piece.span.to), (*kind, *to), "in {src:?}");
     }
     Ok(())
