@@ -9,6 +9,7 @@ mod limits;
 mod list;
 mod minify;
 mod refusal;
+mod room;
 mod source;
 
 pub use check::check_bytes;

@@ -11,8 +11,9 @@ ghost use Rattle.luf_work.specs.Minify.{IsMinifyAccepted, IsMinifyRefusal, Keeps
 ghost use Rattle.luf_work.specs.inner.Read.{IsNamed};
 ghost use Rattle.luf_work.specs.declared.refusal.Refusal.{Refusal as Cause};
 
+use crate::room::make_room;
 use crate::source::{NamedSource, ReadSource, named};
-use crate::{Refusal, SOURCE_LIMIT, TEXT_LIMIT};
+use crate::{Refusal, TEXT_LIMIT};
 use luf_goto::Jumps;
 use luf_interf::{Names, names_read};
 use luf_lex::Cut;
@@ -61,19 +62,6 @@ pub fn minify_bytes(alloc: Global, src: &[u8], into: &mut Vec<u8>) -> Result<(),
         into.truncate(len);
         return Err(Refusal::ResultTooLarge);
     }
-    Ok(())
-}
-
-/// Room for a text that is no longer than its source, as most are. It is made before anything else: what glibc takes then
-/// for so much, it does not join with what is free when it is freed.
-fn make_room(src: &[u8], into: &mut Vec<u8>) -> Result<(), Memory>
-    ensures items { into.new.items ≡ into.old.items }
-    ensures within { IfErr result (λ _. length src.now ≤ source_limit) }
-{
-    if src.len() > SOURCE_LIMIT {
-        return Ok(());
-    }
-    into.reserve(src.len())?;
     Ok(())
 }
 
