@@ -6,7 +6,7 @@ ghost use Rattle.luf_work.specs.Source.{IsAccepted};
 ghost use Rattle.luf_work.specs.declared.refusal.Refusal.{Refusal as Cause};
 
 use crate::Refusal;
-use crate::source::{ReadSource, accepted};
+use crate::source::{accepted, discard};
 use std::alloc::Global;
 
 /// Looks at a source as every job does. `Ok` says that it is accepted.
@@ -34,15 +34,4 @@ pub fn check_bytes(alloc: Global, src: &[u8]) -> Result<(), Refusal>
     let source = accepted(alloc, src)?;
     discard(source);
     Ok(())
-}
-
-/// Drops a source: its pieces, and then its statements from the last to the first. Here nothing else is held above the
-/// tree, and so glibc's allocator joins the blocks of a few statements at a time, and not those of all in the end.
-fn discard(source: ReadSource) {
-    let ReadSource { pieces, chunk } = source;
-    drop(pieces);
-    let mut stats = chunk.block.stats;
-    while let Some(stat) = stats.pop() {
-        drop(stat);
-    }
 }

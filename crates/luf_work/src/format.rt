@@ -9,7 +9,7 @@ ghost use Rattle.luf_work.specs.declared.refusal.Refusal.{Refusal as Cause};
 
 use crate::hash::write_hash_line;
 use crate::room::make_room;
-use crate::source::{ReadSource, accepted};
+use crate::source::{ReadSource, accepted, discard};
 use crate::{Refusal, TEXT_LIMIT};
 use luf_conf::Options;
 use luf_memory::Memory;
@@ -54,7 +54,9 @@ pub fn format_bytes(
     }
     let source = accepted(alloc, src)?;
     let len = into.len();
-    if let Err(e) = write_text(alloc, src, &source, o, into) {
+    let written = write_text(alloc, src, &source, o, into);
+    discard(source);
+    if let Err(e) = written {
         return Err(Refusal::from(e));
     }
     if into.len() - len > TEXT_LIMIT {

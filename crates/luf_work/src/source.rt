@@ -71,6 +71,17 @@ pub(crate) fn named(alloc: Global, src: &[u8]) -> Result<NamedSource, Refusal>
     })
 }
 
+/// Drops a source: its pieces, and then its statements from the last to the first. Where nothing else is held above the
+/// tree, glibc's allocator so joins the blocks of a few statements at a time, and not those of all in the end.
+pub(crate) fn discard(source: ReadSource) {
+    let ReadSource { pieces, chunk } = source;
+    drop(pieces);
+    let mut stats = chunk.block.stats;
+    while let Some(stat) = stats.pop() {
+        drop(stat);
+    }
+}
+
 /// A source that has a tree, or the first cause for which it is refused before names are looked at.
 fn parsed(alloc: Global, src: &[u8]) -> Result<ReadSource, Refusal>
     ensures within { IfOk result (λ _. length src.now ≤ source_limit) }

@@ -19,7 +19,7 @@ returns-in_err-source-clause-exact c = told c.args.o.now c.args.src.now _ (passe
 
 pub returns-then-len-gt-TEXT_LIMIT-clause-refused : goal.returns-then-len-gt-TEXT_LIMIT-clause-refused
 returns-then-len-gt-TEXT_LIMIT-clause-refused c = λ other.
-    let written = c.in_default-write_text.ensures.ok in (
+    let written = c.in_default-written.ensures.ok in (
       accepted_of c.args.src.now c.in_ok-source.source c.in_ok-source.ensures.within c.in_ok-source.ensures.ok,
       record {
         text = written.0;
@@ -38,7 +38,7 @@ returns-then-len-gt-TEXT_LIMIT-clause-exact c = told c.args.o.now c.args.src.now
 
 pub returns-clause-accepted : goal.returns-clause-accepted
 returns-clause-accepted c =
-    let written = c.in_default-write_text.ensures.ok in
+    let written = c.in_default-written.ensures.ok in
     record {
       accepted = accepted_of c.args.src.now c.in_ok-source.source c.in_ok-source.ensures.within c.in_ok-source.ensures.ok;
       text = written.0;
@@ -52,7 +52,7 @@ returns-clause-exact c = λ refusal cause. absurd (accepted_not_refused c.args.o
 pub returns-clause-ok : goal.returns-clause-ok
 unfolding returns-clause-accepted
 returns-clause-ok c =
-    let written = c.in_default-write_text.ensures.ok in
+    let written = c.in_default-written.ensures.ok in
     let accepted = returns-clause-accepted c in (
       written.0,
       written.1,

@@ -1,5 +1,5 @@
 use Rattle.std.proofs.Common.{length}
-use Rattle.luf_work.proofs.check.discard.Given as goal
+use Rattle.luf_work.proofs.source.discard.Given as goal
 
 abbrev pub decreases-loop-stat : goal.decreases-loop-stat
 decreases-loop-stat l = length l.stats
