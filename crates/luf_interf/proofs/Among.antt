@@ -1,14 +1,11 @@
--- Members of a list, by where they stand.
+-- What members of a list have, and where they stand.
 use Rattle.std.proofs.Common.{◌≡◌, ℕ, zero, suc, Bool, true, false, ◌||◌, Option, Some, None, List, [], ◌∷◌, All, AllPairs, get_or, ◌<◌, slice_get, refl, subst, ⊎_elim}
 use Rattle.std.specs.List.{filter_map, cons_option, list_any}
 use Rattle.std.proofs.lemmas.Option.{none-some, same_Some, slice_get_within, get_or_from_slice_get}
 use Rattle.std.proofs.lemmas.Bool.{or_cases, or_left, or_right, false_from_ne_true}
 use Rattle.std.proofs.lemmas.List.Elements.{All-head, All-tail, All-cons, All-nil}
 use Rattle.luf_resolved.proofs.Paired.{Paired, nothing, more}
-
-pub data Among {X : Type 0} (x : X) : List X → Type 0 where
-  here : {xs : List X} → Among x (x ∷ xs)
-  there : {y : X} {xs : List X} → Among x xs → Among x (y ∷ xs)
+use Rattle.luf_interf.specs.inner.Among.{Among, here, there}
 
 module _ {X : Type 0} where
   pub all_among : (P : X → Type 0) (xs : List X) (x : X) → All P xs → Among x xs → P x

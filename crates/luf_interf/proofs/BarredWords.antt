@@ -1,7 +1,7 @@
 -- The barred names as a list.
 use Rattle.std.proofs.Common.{List, [], ◌∷◌, refl, sym, subst, codes, ℕ}
 use Rattle.luf_name.specs.Barred.{IsBarred, word_and, word_break, word_do, word_else, word_elseif, word_end, word_false, word_for, word_function, word_goto, word_if, word_in, word_local, word_nil, word_not, word_or, word_repeat, word_return, word_then, word_true, word_until, word_while, name_self, name_ENV}
-use Rattle.luf_interf.proofs.Among.{Among, here, there}
+use Rattle.luf_interf.specs.inner.Among.{Among, here, there}
 
 abbrev pub barred_words : List (List ℕ)
 barred_words = codes "and" ∷ codes "break" ∷ codes "do" ∷ codes "else" ∷ codes "elseif" ∷ codes "end" ∷ codes "false" ∷ codes "for" ∷ codes "function" ∷ codes "goto" ∷ codes "if" ∷ codes "in" ∷ codes "local" ∷ codes "nil" ∷ codes "not" ∷ codes "or" ∷ codes "repeat" ∷ codes "return" ∷ codes "then" ∷ codes "true" ∷ codes "until" ∷ codes "while" ∷ codes "self" ∷ codes "_ENV" ∷ []

@@ -6,7 +6,8 @@ use Rattle.std.proofs.lemmas.Bool.{ltb-true, lt-ltb, le-leb, leb-true, leb-false
 use Rattle.luf_interf.specs.declared.uses.Scope.{Scope}
 use Rattle.luf_interf.specs.declared.uses.Use.{Use}
 use Rattle.luf_interf.specs.inner.Uses.{nowhere, has_number, IsHead, IsTable, is_used, IsTaken, IsChoice}
-use Rattle.luf_interf.proofs.Among.{Among, here, there, any_among, any_of}
+use Rattle.luf_interf.specs.inner.Among.{Among, here, there}
+use Rattle.luf_interf.proofs.Among.{any_among, any_of}
 use Rattle.luf_interf.proofs.Nexts.{next_first, next_passes}
 use Rattle.luf_interf.proofs.Given.{rising}
 

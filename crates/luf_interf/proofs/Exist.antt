@@ -19,7 +19,8 @@ use Rattle.luf_scope.specs.Order.{place}
 use Rattle.luf_interf.specs.Interference.{IsLocal, IsLabel, IsReference, meant, Interferes, IsGlobalAt, LabelsInterfere}
 use Rattle.luf_interf.specs.NewNames.{Naming, is_fixed, IsFirstFree, IsFree, IsFreeLabel, AreLeast}
 use Rattle.luf_interf.specs.RenamingLaws.{LeastNamesExist}
-use Rattle.luf_interf.proofs.Among.{Among, here, there, any_among, any_of}
+use Rattle.luf_interf.specs.inner.Among.{Among, here, there}
+use Rattle.luf_interf.proofs.Among.{any_among, any_of}
 use Rattle.luf_interf.proofs.BarredWords.{barred_words, barred_among, among_barred}
 use Rattle.luf_interf.proofs.Says.{among_left, among_right}
 use Rattle.luf_interf.proofs.OneNaming.{free_alike, free_label_alike}

@@ -20,7 +20,8 @@ use Rattle.luf_scope.proofs.Blocks.{block_lies as blocks_lie}
 use Rattle.luf_resolved.proofs.Paired.{PairedOption, neither, both, paired_option, same_any as same_any_paired}
 use Rattle.luf_interf.specs.NewNames.{Naming, AreLeast}
 use Rattle.luf_interf.specs.RenamingLaws.{said_in, HaveLabels, LeastNamesHaveNoFault}
-use Rattle.luf_interf.proofs.Among.{Among, all_from, index_of, any_none, any_of, given, paired_back, same_any, same_given, none_given, paired_given}
+use Rattle.luf_interf.specs.inner.Among.{Among}
+use Rattle.luf_interf.proofs.Among.{all_from, index_of, any_none, any_of, given, paired_back, same_any, same_given, none_given, paired_given}
 use Rattle.luf_interf.proofs.NewLocals.{told, Respelled, locals_respelled}
 use Rattle.luf_interf.proofs.Roles.{reference_alike}
 use Rattle.luf_interf.proofs.Labels.{LabelRespelled, GotoRespelled, labels_respelled, gotos_respelled, target_at, none_twice}

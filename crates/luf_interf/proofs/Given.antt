@@ -6,7 +6,8 @@ use Rattle.luf_interf.specs.declared.uses.Owner.{Owner}
 use Rattle.luf_interf.specs.declared.uses.Owner.TheVariants as owner
 use Rattle.luf_interf.specs.declared.uses.Use.{Use}
 use Rattle.luf_interf.specs.inner.Uses.{nowhere, IsBarredNumber, number_of, has_number, is_local, is_of, next_of, behind_of, following, IsLinked, AreLinked, IsHead, IsTable}
-use Rattle.luf_interf.proofs.Among.{Among, here, there, all_among}
+use Rattle.luf_interf.specs.inner.Among.{Among, here, there}
+use Rattle.luf_interf.proofs.Among.{all_among}
 use Rattle.luf_interf.proofs.Nexts.{Rising, next_here, next_later, next_same, next_joined}
 
 pub rising : (size : ℕ) (names behind : List ℕ) (us : List Use) → AreLinked size names behind us → Rising us

@@ -18,7 +18,8 @@ use Rattle.luf_scope.specs.Nesting.{AreNestedBlocks}
 use Rattle.luf_resolved.proofs.Paired.{Paired, PairedOption, nothing, more, neither, both, filtered, same_position}
 use Rattle.luf_interf.specs.Interference.{IsLabel, LabelsInterfere, HoldsBlock}
 use Rattle.luf_interf.specs.NewNames.{Naming, AreLeast, new_word}
-use Rattle.luf_interf.proofs.Among.{Among, here, there, all_among, among_at, given_by, beside_itself, pairs_at, paired_at, paired_back}
+use Rattle.luf_interf.specs.inner.Among.{Among, here, there}
+use Rattle.luf_interf.proofs.Among.{all_among, among_at, given_by, beside_itself, pairs_at, paired_at, paired_back}
 use Rattle.luf_interf.proofs.Last.{first_is, first_none}
 use Rattle.luf_interf.proofs.Innermost.{innermost_seen, innermost_alone}
 use Rattle.luf_interf.proofs.Tokens.{Has, one, placed, own_block}

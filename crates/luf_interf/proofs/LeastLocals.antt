@@ -27,7 +27,8 @@ use Rattle.luf_interf.specs.declared.uses.Scope.{Scope}
 use Rattle.luf_interf.specs.inner.Owners.{a_number, no_number, IsOwner, renamed, fixed, free, AreUses, AreLocalNames, scopes_from, Begins}
 use Rattle.luf_interf.specs.inner.Uses as uses
 use Rattle.luf_interf.specs.inner.Uses.{nowhere, IsBarredNumber, has_number, is_used, IsTaken, IsChoice, AreNamed, named, name_next}
-use Rattle.luf_interf.proofs.Among.{Among, here, there, all_among, all_from, any_among, any_of, index_of, pairs_at}
+use Rattle.luf_interf.specs.inner.Among.{Among, here, there}
+use Rattle.luf_interf.proofs.Among.{all_among, all_from, any_among, any_of, index_of, pairs_at}
 use Rattle.luf_interf.proofs.Choice.{either, behind_all, parts, used_there}
 use Rattle.luf_interf.proofs.OwnersFound.{use_reference, use_owner, reference_use, meant_active, IsScopeOf, scope_is, scope_there}
 

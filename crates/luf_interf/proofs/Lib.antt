@@ -15,6 +15,7 @@ pub mod Resolve
 mod NamesExamples
 pub mod Faults
 pub mod BarredWords
+pub mod BarredNumbers
 pub mod Exist
 pub mod NewWords
 pub mod Named

@@ -1,16 +1,13 @@
 -- What local variables are named from: the table behind all references, and the scopes in order.
-use Rattle.std.proofs.Common.{◌≡◌, ℕ, ◌+◌, ◌<◌, ◌≤◌, inl, inr, Bool, true, false, cond, Option, Some, is_some, List, [], ◌∷◌, length, get_or, set, replicate, slice_get, All, AllPairs, refl, sym, ap, subst, ◌∙◌, ⊎_elim, arith, get_or-set_same, get_or-set_other}
+use Rattle.std.proofs.Common.{◌≡◌, ℕ, ◌+◌, ◌<◌, ◌≤◌, inl, inr, Bool, true, false, cond, Option, Some, is_some, List, [], ◌∷◌, length, get_or, replicate, slice_get, All, AllPairs, refl, sym, ap, subst, ◌∙◌, ⊎_elim, arith}
 use Rattle.std.specs.List.{count_by, cons_option}
 use Rattle.std.specs.List.Sorted.{IsPermutation}
-use Rattle.std.proofs.lemmas.Bool.{cases_lt, cases_eq, and_parts, eqb-true, leb-true, ltb-true}
-use Rattle.std.proofs.lemmas.List.{get_or-replicate, length-replicate, get_or_past, length-map, length-set, drop_all}
+use Rattle.std.proofs.lemmas.Bool.{cases_lt, and_parts, eqb-true, leb-true, ltb-true}
+use Rattle.std.proofs.lemmas.List.{get_or-replicate, length-replicate, get_or_past, length-map, drop_all}
 use Rattle.std.proofs.lemmas.List.Elements.{All-nil, All-cons, All-head, All-tail, All-weaker}
 use Rattle.std.proofs.lemmas.List.Kept.{AllPairs-cons}
 use Rattle.std.proofs.lemmas.List.Sums.{sum_by-cons}
 use Rattle.std.proofs.lemmas.Option.{same_Some, slice_get_within}
-use Rattle.luf_name.specs.Barred.{IsBarred}
-use Rattle.luf_name.specs.Order.{IsNth}
-use Rattle.luf_name.proofs.Rising.{one_name}
 use Rattle.luf_scope.specs.Local.{Spelling, LocalVariable, binder_of, locals_of, is_active}
 use Rattle.luf_scope.specs.Links.{NameTable, AreLinks}
 use Rattle.luf_scope.specs.Order.{place, behind, is_loop, AreOrdered}
@@ -28,8 +25,9 @@ use Rattle.luf_interf.specs.declared.uses.Owner.TheVariants as owner
 use Rattle.luf_interf.specs.declared.uses.Scope.{Scope}
 use Rattle.luf_interf.specs.declared.uses.Use.{Use}
 use Rattle.luf_interf.specs.inner.Owners.{IsOwner, renamed, free, AreUses, no_uses, no_name, no_owner, a_use, IsReading, scope_at, scopes_from, Begins}
-use Rattle.luf_interf.specs.inner.Uses.{nowhere, IsBarredNumber, is_local, is_of, IsHead, AreBarred, IsScope, AreScopes}
-use Rattle.luf_interf.proofs.Among.{Among, all_among, all_from, among_at}
+use Rattle.luf_interf.specs.inner.Uses.{nowhere, is_local, is_of, IsHead, AreBarred, IsScope, AreScopes}
+use Rattle.luf_interf.specs.inner.Among.{Among}
+use Rattle.luf_interf.proofs.Among.{all_among, all_from, among_at}
 use Rattle.luf_interf.proofs.OwnersFound.{use_owner, meant_active}
 use Rattle.luf_interf.proofs.LeastLocals.{scope_sorted, sorted_apart}
 
@@ -74,31 +72,11 @@ few_uses spelled all size (o ∷ os) (u ∷ us) (a_use used owned rest) =
 
 -- ---- the table before any reference is read
 
-pub barred_next : (size k : ℕ) (heads after : List ℕ) (name : List ℕ) → AreBarred size k heads → k < size → IsNth name k → IsBarred name → after ≡ set heads k 0 → AreBarred size (k + 1) after
-barred_next size k heads after name are below nth barred is = subst (AreBarred size (k + 1)) (sym is) (record {
-  count = length-set heads k 0 ∙ are.count;
-  told = λ j less. ⊎_elim
-      (λ same. inl (subst IsBarredNumber (sym same) (record { name = name; is = nth; barred = barred }), ap (λ m. get_or (set heads k 0) m 0) same ∙ get_or-set_same heads k 0 0 (let n = are.count in omega (arith, n, below))))
-      (λ other. subst (IsHead [] [] j) (sym (get_or-set_other heads k j 0 0 other)) (are.told j (omega (arith, less, other))))
-      (cases_eq j k);
-  left = λ j high within. get_or-set_other heads k j 0 0 (λ e. omega (arith, e, high)) ∙ are.left j (omega (arith, high)) within;
-})
-
-pub open_next : (size k : ℕ) (heads after : List ℕ) (name : List ℕ) → AreBarred size k heads → k < size → IsNth name k → (IsBarred name → ⊥) → after ≡ heads → AreBarred size (k + 1) after
-open_next size k heads after name are below nth apart is = subst (AreBarred size (k + 1)) (sym is) (record {
-  count = are.count;
-  told = λ j less. ⊎_elim
-      (λ same. inr ((λ b. apart (subst IsBarred (one_name j b.name name b.is (nth.0, nth.1 ∙ sym same)) b.barred)), ap (λ m. get_or heads m 0) same ∙ are.left k (omega arith) below))
-      (λ other. are.told j (omega (arith, less, other)))
-      (cases_eq j k);
-  left = λ j high within. are.left j (omega (arith, high)) within;
-})
-
 nowhere_all : (count n : ℕ) → get_or (replicate count nowhere) n nowhere ≡ nowhere
 nowhere_all count n = ⊎_elim (λ below. get_or-replicate count n nowhere nowhere below) (λ past. get_or_past (replicate count nowhere) n nowhere (let l = length-replicate count nowhere in omega (arith, l, past))) (cases_lt n count)
 
 pub reading_none : (e : ℕ) (os : List Occurrence) (spelled : Spelling) (links : NameTable) (count size : ℕ) (names behind firsts heads : List ℕ) → AreLinks spelled os e links → count ≡ length links.binders → size < nowhere
-    → names ≡ replicate count nowhere → firsts ≡ replicate count nowhere → AreBarred size size heads → IsReading spelled os (length os) names behind heads firsts []
+    → names ≡ replicate count nowhere → firsts ≡ replicate count nowhere → AreBarred size heads → IsReading spelled os (length os) names behind heads firsts []
 reading_none e os spelled links count size names behind firsts heads are counted few names_are firsts_are barred = record {
   are = subst (λ xs. AreUses spelled os (length heads) xs []) (sym (drop_all (length os) os (omega arith))) no_uses;
   table = record {

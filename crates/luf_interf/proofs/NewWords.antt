@@ -28,7 +28,8 @@ use Rattle.luf_resolved.specs.Resolved.{meanings}
 use Rattle.luf_interf.specs.Interference.{IsLabel}
 use Rattle.luf_interf.specs.NewNames.{Naming, is_fixed, AreLeast, AreNames, new_word, renamed, name_of_label, name_in, new_name_at}
 use Rattle.luf_interf.specs.RenamingLaws.{said_in, NamesAgree}
-use Rattle.luf_interf.proofs.Among.{Among, among_at, any_none, given_by}
+use Rattle.luf_interf.specs.inner.Among.{Among}
+use Rattle.luf_interf.proofs.Among.{among_at, any_none, given_by}
 use Rattle.luf_interf.proofs.Last.{first_none}
 use Rattle.luf_interf.proofs.Innermost.{innermost_seen}
 use Rattle.luf_interf.proofs.Labels.{is_goto, label_from, goto_from, goto_role_none}

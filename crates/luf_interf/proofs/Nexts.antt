@@ -3,7 +3,8 @@ use Rattle.std.proofs.Common.{◌≡◌, ℕ, ◌<◌, ◌≤◌, ◌⊎◌, inl
 use Rattle.std.proofs.lemmas.Bool.{cases_Bool, cond-true, cond-false, ne_eqb, eq-eqb, or_left, or_from, false_from_ne_true}
 use Rattle.luf_interf.specs.declared.uses.Use.{Use}
 use Rattle.luf_interf.specs.inner.Uses.{nowhere, next_of}
-use Rattle.luf_interf.proofs.Among.{Among, here, there, all_among}
+use Rattle.luf_interf.specs.inner.Among.{Among, here, there}
+use Rattle.luf_interf.proofs.Among.{all_among}
 
 -- each token before all later ones
 abbrev pub Rising : List Use → Type 0

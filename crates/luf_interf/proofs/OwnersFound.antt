@@ -13,7 +13,8 @@ use Rattle.luf_interf.specs.NewNames.{is_fixed}
 use Rattle.luf_interf.specs.declared.uses.Use.{Use}
 use Rattle.luf_interf.specs.declared.uses.Scope.{Scope}
 use Rattle.luf_interf.specs.inner.Owners.{IsOwner, AreUses, no_uses, no_name, no_owner, a_use, scopes_from}
-use Rattle.luf_interf.proofs.Among.{Among, here, there, any_among, any_of}
+use Rattle.luf_interf.specs.inner.Among.{Among, here, there}
+use Rattle.luf_interf.proofs.Among.{any_among, any_of}
 use Rattle.luf_interf.proofs.Last.{IsLast, last_is}
 use Rattle.luf_interf.proofs.Alike.{is_meant}
 use Rattle.std.proofs.lemmas.Bool.{and_parts}

@@ -6,7 +6,8 @@ use Rattle.std.proofs.lemmas.Bool.{false_from_ne_true}
 use Rattle.luf_interf.specs.declared.uses.Use.{Use}
 use Rattle.luf_interf.specs.declared.uses.Scope.{Scope}
 use Rattle.luf_interf.specs.inner.Uses.{nowhere, is_of, next_of, IsChoice, IsPassed, IsScope, AreScopes, AreNamed, name_next}
-use Rattle.luf_interf.proofs.Among.{Among, here, there, all_among, all_from}
+use Rattle.luf_interf.specs.inner.Among.{Among, here, there}
+use Rattle.luf_interf.proofs.Among.{all_among, all_from}
 use Rattle.luf_interf.proofs.Choice.{behind_all}
 use Rattle.luf_interf.proofs.Nexts.{next_behind}
 

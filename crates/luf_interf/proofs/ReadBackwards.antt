@@ -17,7 +17,8 @@ use Rattle.luf_interf.specs.declared.uses.Owner.TheVariants as owner
 use Rattle.luf_interf.specs.declared.uses.Use.{Use}
 use Rattle.luf_interf.specs.inner.Owners.{a_number, IsOwner, renamed, free, AreUses, no_name, no_owner, a_use, IsReading}
 use Rattle.luf_interf.specs.inner.Uses.{nowhere, AreFirsts, CanStand, IsTable, IsPut}
-use Rattle.luf_interf.proofs.Among.{Among, here, there, all_among, all_from, any_of}
+use Rattle.luf_interf.specs.inner.Among.{Among, here, there}
+use Rattle.luf_interf.proofs.Among.{all_among, all_from, any_of}
 use Rattle.luf_interf.proofs.OwnersFound.{use_is, used_variable}
 
 used_place : (o : Occurrence) (t : ℕ) → used_by o ≡ Some t → (place o ≡ t) × (behind o ≡ t + 1)

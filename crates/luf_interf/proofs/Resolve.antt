@@ -21,7 +21,8 @@ use Rattle.luf_resolved.proofs.Paired.{Paired, PairedOption, neither, both, filt
 use Rattle.luf_interf.specs.Interference.{IsReference, meant}
 use Rattle.luf_interf.specs.NewNames.{Naming, new_word}
 use Rattle.luf_interf.specs.RenamingLaws.{said_in, LeastNamesResolveAlike}
-use Rattle.luf_interf.proofs.Among.{Among, any_none, any_of, given, index_of, beside_itself}
+use Rattle.luf_interf.specs.inner.Among.{Among}
+use Rattle.luf_interf.proofs.Among.{any_none, any_of, given, index_of, beside_itself}
 use Rattle.luf_interf.proofs.Tokens.{Has, attribute_behind, variable_named, declared_there, none_declared, one}
 use Rattle.luf_interf.proofs.NewLocals.{told, reference_role}
 use Rattle.luf_interf.proofs.Roles.{plain_there, role_alike, environment_alike}

@@ -13,7 +13,8 @@ use Rattle.luf_interf.specs.Interference.{IsLocal, IsReference, meant}
 use Rattle.luf_interf.specs.NewNames.{Naming, is_fixed, AreLeast}
 use Rattle.luf_interf.specs.RenamingLaws.{said_in, LeastNamesKeepRoles}
 use Rattle.luf_scope.proofs.Places.{block_lies}
-use Rattle.luf_interf.proofs.Among.{Among, any_none}
+use Rattle.luf_interf.specs.inner.Among.{Among}
+use Rattle.luf_interf.proofs.Among.{any_none}
 use Rattle.luf_interf.proofs.Last.{IsLast, last_is, one_last}
 use Rattle.luf_interf.proofs.Tokens.{Has, one, variable_named, field_named, none_declared}
 use Rattle.luf_interf.proofs.NewLocals.{told, locals_respelled, IsNew, new_at, old_at, kept_name, given_name}

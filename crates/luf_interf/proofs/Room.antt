@@ -7,7 +7,8 @@ use Rattle.std.proofs.lemmas.Bool.{leb-false, eqb-true, eq-eqb}
 use Rattle.luf_name.specs.Order as order
 use Rattle.luf_interf.specs.declared.uses.Use.{Use}
 use Rattle.luf_interf.specs.inner.Uses.{nowhere, number_of, has_number, IsHead, IsTable}
-use Rattle.luf_interf.proofs.Among.{Among, here, there, any_of}
+use Rattle.luf_interf.specs.inner.Among.{Among, here, there}
+use Rattle.luf_interf.proofs.Among.{any_of}
 use Rattle.luf_interf.proofs.BarredWords.{barred_words, barred_among}
 use Rattle.luf_interf.proofs.Choice.{nowhere_at, behind_all}
 use Rattle.luf_interf.proofs.Nexts.{next_passes}

@@ -18,7 +18,7 @@ use Rattle.luf_bare.specs.Bare.{bare_declared}
 use Rattle.luf_scope.specs.Occurrences.{declared_locals, loop_variables_of, parameters_of, path_of, method_of}
 use Rattle.luf_scope.specs.declared.occurrence.Occurrence.{Occurrence}
 use Rattle.luf_scope.specs.declared.occurrence.Occurrence.TheVariants.{Local, LocalFunction, Parameter, ImplicitSelf, LoopVariable, Reads, Assigns, Field, Label, Goto}
-use Rattle.luf_interf.proofs.Among.{Among, here, there}
+use Rattle.luf_interf.specs.inner.Among.{Among, here, there}
 
 -- a name, or the `:` of a method
 abbrev pub is_word : Tok → Bool

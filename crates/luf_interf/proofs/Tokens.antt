@@ -9,7 +9,8 @@ use Rattle.luf_scope.specs.Role.{is_variable, is_field, declared_at}
 use Rattle.luf_scope.specs.Order.{place, behind, declares, is_loop, is_label, StandsInBlock, AttributeBehind, Follows, Within, AreOrdered}
 use Rattle.luf_scope.proofs.Lying.{pairs_head, pairs_tail}
 use Rattle.luf_scope.proofs.Ordered.{declared_is, LocalsNest, locals_nest}
-use Rattle.luf_interf.proofs.Among.{Among, here, there, all_among, among_at, any_among, given_by, pairs_at}
+use Rattle.luf_interf.specs.inner.Among.{Among, here, there}
+use Rattle.luf_interf.proofs.Among.{all_among, among_at, any_among, given_by, pairs_at}
 use Rattle.luf_interf.proofs.Last.{first_is, first_none}
 
 abbrev pub Has : ℕ → Occurrence → Type 0

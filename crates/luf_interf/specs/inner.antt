@@ -6,3 +6,5 @@ pub mod LabelNames
 pub mod Owners
 pub mod Uses
 pub mod Told
+pub mod Among
+pub mod Barring

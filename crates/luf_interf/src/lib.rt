@@ -1,6 +1,7 @@
 //! New names for local variables and labels: which may have one name, and what a renaming leaves as it is.
 #![tactic(auto)]
 
+mod barring;
 mod label_names;
 mod label_rows;
 mod laws;

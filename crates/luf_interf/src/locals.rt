@@ -5,15 +5,14 @@ ghost use Rattle.luf_lex.specs.Tokens.{toks_of};
 ghost use Rattle.luf_scope.specs.Links.{spelling_in, AreLinks};
 ghost use Rattle.luf_scope.specs.Order.{AreOrdered};
 ghost use Rattle.luf_interf.specs.inner.Owners.{AreLocalNames};
-ghost use Rattle.luf_interf.specs.inner.Uses.{nowhere, AreBarred};
+ghost use Rattle.luf_interf.specs.inner.Uses.{nowhere};
 
 use crate::Memory;
-use crate::maxima::Maxima;
+use crate::barring::heads_of;
 use crate::naming::Table;
 use crate::owners::count_references;
 use crate::scoping::{in_order, scopes_of};
 use luf_lex::Cut;
-use luf_name::{is_barred, nth};
 use luf_scope::{Links, Occurrence};
 use std::alloc::Global;
 
@@ -53,18 +52,4 @@ fn nowheres(alloc: Global, count: usize) -> Result<Vec<u32>, Memory>
 {
     let found = vec![in alloc; u32::MAX; count]?;
     Ok(found)
-}
-
-// The table behind the last reference: no name is used, and the barred ones are 0.
-fn heads_of(alloc: Global, size: usize) -> Result<Maxima, Memory>
-    requires { size < nowhere }
-    ensures { IfOk result (λ heads. AreBarred size size heads) }
-{
-    let mut heads = Maxima::of(alloc, size, u32::MAX)?;
-    for k in 0..size {
-        if is_barred(nth(k as u32).as_slice()) {
-            heads.set(k, 0);
-        }
-    }
-    Ok(heads)
 }

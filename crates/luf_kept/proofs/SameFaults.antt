@@ -16,7 +16,7 @@ use Rattle.luf_scope.specs.Links.{occurrences_of}
 use Rattle.luf_scope.specs.Local.{Spelling, LocalVariable, FunctionAt, kind_of, declared_by, locals_of, functions_of, meaning, is_active}
 use Rattle.luf_scope.specs.Jump.{LabelAt, GotoAt, label_by, goto_by, labels_of, gotos_of, is_seen, target}
 use Rattle.luf_scope.specs.Fault.{is_constant, unknown_attribute, closes_before, second_close, constant_assigned, varargs_outside, break_outside, name_faults, jump_faults, first_fault, first_of, scope_fault}
-use Rattle.luf_interf.proofs.Among.{Among, here, there}
+use Rattle.luf_interf.specs.inner.Among.{Among, here, there}
 use Rattle.luf_interf.proofs.Says.{Named, NamedOption}
 use Rattle.luf_interf.proofs.Program.{block_says}
 use Rattle.luf_resolved.specs.Resolved.{meanings}

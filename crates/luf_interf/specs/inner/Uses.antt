@@ -129,8 +129,7 @@ pub record IsPut (token : ℕ) (what : Owner) (uses more : List Use) : Type 0 wh
   pub token_is : first.token ≡ token
   pub owner_is : first.owner ≡ what
 
--- of so many numbers, 0 at those of barred names below a bound, and nowhere at all others
-pub record AreBarred (size bound : ℕ) (heads : List ℕ) : Type 0 where
+-- of so many numbers, 0 at those of barred names, and nowhere at all others
+pub record AreBarred (size : ℕ) (heads : List ℕ) : Type 0 where
   pub count : length heads ≡ size
-  pub told : (k : ℕ) → k < bound → IsHead [] [] k (slice_index_or heads k 0)
-  pub left : (k : ℕ) → bound ≤ k → k < size → slice_index_or heads k 0 ≡ nowhere
+  pub told : (k : ℕ) → k < size → IsHead [] [] k (slice_index_or heads k 0)
