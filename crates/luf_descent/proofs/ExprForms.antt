@@ -1,6 +1,6 @@
 -- Each part of an expression that is looked for at a place, in the form in which it is read: from the token that stands
 -- there, one part after another.
-use Rattle.std.proofs.Common.{◌≡◌, ℕ, ◌+◌, ◌<◌, ◌≤◌, ◌⊎◌, inl, inr, Bool, true, false, Option, Some, None, List, [], ◌∷◌, length, map, refl, sym, ap, ◌∙◌, subst, arith}
+use Rattle.std.proofs.Common.{◌≡◌, ℕ, ◌+◌, ◌<◌, ◌≤◌, ◌⊎◌, inl, inr, Bool, true, false, cond, Option, Some, None, List, [], ◌∷◌, length, map, refl, sym, ap, ◌∙◌, subst, arith}
 use Rattle.std.specs.Prelude.{slice_get}
 use Rattle.luf_lex.specs.declared.token.Tok.{Tok}
 use Rattle.luf_lex.specs.declared.token.Tok.TheVariants.{Name, Short, Long, Word, Sign}
@@ -339,7 +339,7 @@ exprs_form {toks} {left} {i} r h = form r.0 r.1 h.is h.ends h.level
 -- prefix expressions
 
 abbrev pub SuffixedForm : List Tok → ℕ → ℕ → PrefixExpr → PrefixExpr → Type 0
-SuffixedForm toks left i head = Then (ReadSuffixes toks left (out-Expr head.expr).to) (λ r p. p ≡ record { shape = suffixed_shape r.1; expr = expression i r.2 (expr.Suffixed head.expr r.0) })
+SuffixedForm toks left i head = Then (ReadSuffixes toks left (out-Expr head.expr).to) (λ r p. p ≡ record { shape = suffixed_shape r.1; expr = g.suffixed i r.2 head.expr r.0 })
 
 -- what stands behind a head: suffixes, if one begins there
 pub record PrefixRest (toks : List Tok) (left i : ℕ) (head p : PrefixExpr) : Type 0 where
@@ -365,8 +365,8 @@ prefix_form {toks} {left} {i} p h = shaped p.shape p.expr _ h.is h.ends h.level
           rest = record { alone = λ none. refl; more = λ some. let none = subst (λ (p : ℕ). begins_suffix toks p ≡ false) to ends in absurd cc };
         }
 
-    suffixed : {j k : ℕ} {head : Expr} {suffixes : List Suffix} (calls : Bool) → IsHead toks i j head → AreSuffixes toks calls j k suffixes → begins_suffix toks k ≡ false → expr_levels (expression i k (expr.Suffixed head suffixes)) ≤ left
-        → PrefixForm toks left i (record { shape = suffixed_shape calls; expr = expression i k (expr.Suffixed head suffixes) })
+    suffixed : {j k : ℕ} {head : Expr} {suffixes : List Suffix} (calls : Bool) → IsHead toks i j head → AreSuffixes toks calls j k suffixes → begins_suffix toks k ≡ false → expr_levels (g.suffixed i k head suffixes) ≤ left
+        → PrefixForm toks left i (record { shape = suffixed_shape calls; expr = g.suffixed i k head suffixes })
     suffixed {j} {k} {head} {suffixes} calls d rest ends level =
         let read = head_read d (omega (arith, lv.suffixed_levels i k head suffixes)) in
         let at_head = subst (λ (p : ℕ). AreSuffixes toks calls p k suffixes) (sym (head_to d)) rest in
@@ -395,11 +395,19 @@ abbrev prefix_of : Shape → Expr → PrefixExpr
 prefix_of s e = record { shape = s; expr = e }
 
 -- a head with suffixes is neither a name nor an expression in parentheses
-suffixed_name : (i j k : ℕ) (head : Expr) (suffixes : List Suffix) → expression i j (expr.Suffixed head suffixes) ≡ expression i k expr.Name → ⊥
-suffixed_name i j k head suffixes same = let kinds = ap (λ e. (out-Expr e).what) same in absurd cc
+suffixed_name : (i j k : ℕ) (head : Expr) (suffixes : List Suffix) → g.suffixed i j head suffixes ≡ expression i k expr.Name → ⊥
+suffixed_name i j k head suffixes same = by (g.is_name_from i head) (ap (λ e. (out-Expr e).what) same)
+  where
+    by : (b : Bool) → cond b (expr.NameSuffixed suffixes) (expr.Suffixed head suffixes) ≡ expr.Name → ⊥
+    by true kinds = absurd cc
+    by false kinds = absurd cc
 
-suffixed_paren : (i j k : ℕ) (head : Expr) (suffixes : List Suffix) (e : Expr) → expression i j (expr.Suffixed head suffixes) ≡ expression i k (expr.Paren e) → ⊥
-suffixed_paren i j k head suffixes e same = let kinds = ap (λ e. (out-Expr e).what) same in absurd cc
+suffixed_paren : (i j k : ℕ) (head : Expr) (suffixes : List Suffix) (e : Expr) → g.suffixed i j head suffixes ≡ expression i k (expr.Paren e) → ⊥
+suffixed_paren i j k head suffixes e same = by (g.is_name_from i head) (ap (λ e. (out-Expr e).what) same)
+  where
+    by : (b : Bool) → cond b (expr.NameSuffixed suffixes) (expr.Suffixed head suffixes) ≡ expr.Paren e → ⊥
+    by true kinds = absurd cc
+    by false kinds = absurd cc
 
 name_no_call : {toks : List Tok} {i j k : ℕ} {e : Expr} → IsCall toks i j e → e ≡ expression i k expr.Name → ⊥
 name_no_call {k = k} (g.suffixed_call {head = head} {suffixes = suffixes} _ _) same = suffixed_name _ _ k head suffixes same

@@ -20,7 +20,7 @@ use Rattle.luf_tree.specs.declared.tree.Field.TheVariants as field
 use Rattle.luf_tree.specs.Operator.{binary_precedence, is_unary}
 use Rattle.luf_tree.specs.Level.{deepest, expr_levels, block_levels, stat_levels, field_levels, suffix_levels, step_levels, args_levels, body_levels}
 use Rattle.luf_tree.specs.Grammar as g
-use Rattle.luf_tree.specs.Grammar.{expression, statement, IsToken, IsString, NoParenFollows, IsExpr, AreSteps, IsOperand, IsSimple, IsPrefix, IsVariable, IsCall, IsParen, IsHead, AreSuffixes, IsSuffix, IsArgs, AreExprs, IsTable, AreFields, IsField, IsFuncBody, IsBlock, AreStats, IsReturn, IsStat, AreTargets, IsArm, AreArms, IsElse, IsForStep, IsSemicolon, AreNames, AreParams, AreDeclared, IsPath, IsMethod}
+use Rattle.luf_tree.specs.Grammar.{expression, statement, IsToken, IsString, NoParenFollows, IsExpr, AreSteps, IsOperand, IsSimple, IsPrefix, IsVariable, IsCall, IsParen, IsHead, AreSuffixes, IsSuffix, IsArgs, AreExprs, IsTable, AreFields, IsField, IsFuncBody, IsBlock, AreStats, IsReturn, IsStat, AreTargets, IsArm, AreArms, IsElse, IsForStep, IsSemicolon, AreNames, AreParams, AreDeclared, IsPath, IsMethod, suffixed}
 use Rattle.luf_tree.proofs.LevelEquations as lv
 use Rattle.luf_descent.specs.Reads.{Found}
 use Rattle.luf_descent.specs.Follow.{precedence_at, precedence_of}
@@ -154,13 +154,13 @@ name_found {toks} {i} {j} {left} t w =
     let n = t.next in record { is = g.name_variable t; ends = record { forward = omega arith; within = omega arith }; level = omega (arith, lv.name_levels i j) }
 
 suffixed_shaped : {toks : List Tok} {i j k : ℕ} {head : Expr} {suffixes : List Suffix} (calls : Bool) → IsHead toks i j head → AreSuffixes toks calls j k suffixes
-    → IsShaped toks i k (suffixed_shape calls) (expression i k (expr.Suffixed head suffixes))
+    → IsShaped toks i k (suffixed_shape calls) (suffixed i k head suffixes)
 suffixed_shaped true head rest = g.suffixed_call head rest
 suffixed_shaped false head rest = g.suffixed_variable head rest
 
 pub suffixed_found : {toks : List Tok} {i j k left : ℕ} {a : Expr} {suffixes : List Suffix} (calls : Bool) {D : Type 0}
     → Found toks (i + 1) j left (expr_levels a) (D) → IsHead toks i j a → Found toks (j + 1) k left (deepest (map suffix_levels suffixes)) (AreSuffixes toks calls j k suffixes)
-    → Found toks (i + 1) k left (expr_levels (expression i k (expr.Suffixed a suffixes))) (IsShaped toks i k (suffixed_shape calls) (expression i k (expr.Suffixed a suffixes)))
+    → Found toks (i + 1) k left (expr_levels (suffixed i k a suffixes)) (IsShaped toks i k (suffixed_shape calls) (suffixed i k a suffixes))
 suffixed_found {toks} {i} {j} {k} {left} {a} {suffixes} calls h head h2 =
     record { is = suffixed_shaped calls head h2.is; ends = record { forward = omega arith; within = omega arith }; level = omega (arith, lv.suffixed_levels i k a suffixes) }
 

@@ -15,7 +15,7 @@ use Rattle.luf_tree.specs.declared.tree.Args.{Args, out-Args, roll-Args}
 use Rattle.luf_tree.specs.declared.tree.FuncBody.{FuncBody, out-FuncBody}
 use Rattle.luf_tree.specs.Operator.{is_unary}
 use Rattle.luf_tree.specs.Level.{deepest, expr_levels, field_levels, suffix_levels, args_levels}
-use Rattle.luf_tree.specs.Grammar.{At, expression, IsToken, IsString, IsExpr, IsOperand, AreSuffixes, IsArgs, AreExprs, AreFields}
+use Rattle.luf_tree.specs.Grammar.{At, expression, IsToken, IsString, IsExpr, IsOperand, AreSuffixes, IsArgs, AreExprs, AreFields, suffixed}
 use Rattle.luf_descent.specs.Follow.{NotAt, NotAssigned, NotString}
 use Rattle.luf_descent.specs.Parts as p
 use Rattle.luf_descent.specs.Reads.{Found, begins_suffix}
@@ -135,7 +135,7 @@ prefix_known {head = head} known none = record { only = λ l agree n y d. (then_
 
 pub suffixed_known : {toks : List Tok} {at to left : ℕ} {calls : Bool} {head : PrefixExpr} {found : List Suffix} → Known toks (out-Expr head.expr).to (λ l n. p.ReadHead l n at) head → begins_suffix toks (out-Expr head.expr).to ≡ true
     → Found toks ((out-Expr head.expr).to + 1) to left (deepest (map suffix_levels found)) (AreSuffixes toks calls (out-Expr head.expr).to to found) → Known toks to (λ l n. p.ReadSuffixes l n (out-Expr head.expr).to) (found, calls, to)
-    → Known toks to (λ l n. p.ReadPrefix l n at) (record { shape = suffixed_shape calls; expr = expression at to (expr.Suffixed head.expr found) })
+    → Known toks to (λ l n. p.ReadPrefix l n at) (record { shape = suffixed_shape calls; expr = suffixed at to head.expr found })
 suffixed_known {head = head} known begins ok known2 =
     let f = ok.ends.forward in
     record {

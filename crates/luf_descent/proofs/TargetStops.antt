@@ -13,7 +13,7 @@ use Rattle.luf_tree.specs.Agree.{AgreeBefore}
 use Rattle.luf_tree.specs.Level.{deepest, expr_levels}
 use Rattle.luf_tree.specs.Entry.{entries_of_suffix, entries_of_expression, entries_of_statement}
 use Rattle.luf_tree.specs.Grammar as g
-use Rattle.luf_tree.specs.Grammar.{expression, AreTargets, statement, IsVariable, IsPrefix, IsHead, AreSuffixes, IsSuffix, IsToken, NoParenFollows}
+use Rattle.luf_tree.specs.Grammar.{expression, AreTargets, statement, IsVariable, IsPrefix, IsHead, AreSuffixes, IsSuffix, IsToken, NoParenFollows, suffixed}
 use Rattle.luf_tree.proofs.SyntaxEquations as eq
 use Rattle.luf_tree.proofs.Locality.{local_prefix, local_targets, local_expr}
 use Rattle.luf_descent.specs.Follow.{NotAt}
@@ -57,14 +57,14 @@ snoc_entries level name (s ∷ ss) = ap (λ es. suffix_entries level s ++ es) (s
 
 head_variable : {l : List Tok} {i j n k : ℕ} {head : Expr} → IsHead l i j head → IsToken l j (Sign sign.Dot) n → IsToken l n Name k → Variable l i k head
 head_variable {i = i} {n = n} {k = k} {head = head} d t u = record {
-  part = expression i k (expr.Suffixed head (suffix.Dot n ∷ []));
+  part = suffixed i k head (suffix.Dot n ∷ []);
   derived = g.suffixed_variable d (g.one_suffix (g.dot_suffix t u));
   same = λ level. ap (entries_of_expression level) (eq.suffixed_syntax i k head (suffix.Dot n ∷ [])) ∙ ap (λ es. expr_entries level head ++ es) (snoc_entries level n []) ∙ append-nil (expr_entries level head);
 }
 
-suffixed_more : {l : List Tok} {calls : Bool} {i j m n k : ℕ} {head : Expr} {ss : List Suffix} → IsHead l i j head → AreSuffixes l calls j m ss → IsToken l m (Sign sign.Dot) n → IsToken l n Name k → Variable l i k (expression i m (expr.Suffixed head ss))
+suffixed_more : {l : List Tok} {calls : Bool} {i j m n k : ℕ} {head : Expr} {ss : List Suffix} → IsHead l i j head → AreSuffixes l calls j m ss → IsToken l m (Sign sign.Dot) n → IsToken l n Name k → Variable l i k (suffixed i m head ss)
 suffixed_more {i = i} {m = m} {n = n} {k = k} {head = head} {ss = ss} d rest t u = record {
-  part = expression i k (expr.Suffixed head (ss ++ suffix.Dot n ∷ []));
+  part = suffixed i k head (ss ++ suffix.Dot n ∷ []);
   derived = g.suffixed_variable d (snoc rest (g.dot_suffix t u));
   same = λ level. ap (entries_of_expression level) (eq.suffixed_syntax i k head (ss ++ suffix.Dot n ∷ [])) ∙ ap (λ es. expr_entries level head ++ es) (snoc_entries level n ss) ∙ sym (ap (entries_of_expression level) (eq.suffixed_syntax i m head ss));
 }
@@ -99,7 +99,7 @@ head_agrees {toks} {l} (g.paren_head (g.paren {k = k} t d u)) agree =
     let c = (local_expr d).forward in
     g.paren_head (g.paren (token_agrees agree (omega arith) t) ((local_expr d).at l (agree_less agree (omega arith)) (λ none there. none (sym (agree.same k (omega arith)) ∙ there))) (token_agrees agree (omega arith) u))
 
-suffixed_prefix : {l : List Tok} {i j k : ℕ} {head : Expr} {ss : List Suffix} (calls : Bool) → IsHead l i j head → AreSuffixes l calls j k ss → IsPrefix l i k (expression i k (expr.Suffixed head ss))
+suffixed_prefix : {l : List Tok} {i j k : ℕ} {head : Expr} {ss : List Suffix} (calls : Bool) → IsHead l i j head → AreSuffixes l calls j k ss → IsPrefix l i k (suffixed i k head ss)
 suffixed_prefix true head rest = g.call_prefix (g.suffixed_call head rest)
 suffixed_prefix false head rest = g.variable_prefix (g.suffixed_variable head rest)
 
@@ -108,7 +108,7 @@ pub prefix_suffixes : {toks : List Tok} {at place left : ℕ} {head : PrefixExpr
 prefix_suffixes {at = at} {place = place} {head = head} d forward to low known begins h =
     stops_behind forward h
     (λ kind w l k le agree x. record {
-      part = expression at k (expr.Suffixed head.expr x.part.1);
+      part = suffixed at k head.expr x.part.1;
       derived = suffixed_prefix x.part.0 (head_agrees d agree) x.derived;
       levels = λ level. within_spelled (entries_of_expression level) (eq.suffixed_syntax at k head.expr x.part.1) (within_first (expr_entries level head.expr) (low_expr level head.expr low) (x.levels level));
     })

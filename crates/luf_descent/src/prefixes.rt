@@ -1,10 +1,11 @@
 // Prefix expressions: variables, calls and expressions in parentheses.
-ghost use Rattle.std.specs.Prelude.{◌≡◌, ◌+◌, ◌≤◌, map, length, IfOk, IfErr, IfSome, IfNone};
+ghost use Rattle.std.specs.Prelude.{◌≡◌, ◌+◌, ◌≤◌, cond, nat_eq, map, length, IfOk, IfErr, IfSome, IfNone};
 ghost use Rattle.luf_lex.specs.Tokens.{toks_of};
 ghost use Rattle.luf_lex.specs.declared.token.Sign.TheVariants as sign;
 ghost use Rattle.luf_tree.specs.declared.tree.Expr.{out-Expr};
+ghost use Rattle.luf_tree.specs.declared.tree.ExprKind.TheViews.{out-ExprKind};
 ghost use Rattle.luf_tree.specs.declared.tree.Args.{out-Args};
-ghost use Rattle.luf_tree.specs.Grammar.{expression, IsToken, IsString, NoParenFollows, IsHead, IsParen, AreSuffixes, IsSuffix, IsArgs};
+ghost use Rattle.luf_tree.specs.Grammar.{suffixed, is_name_from, is_name_kind, IsToken, IsString, NoParenFollows, IsHead, IsParen, AreSuffixes, IsSuffix, IsArgs};
 ghost use Rattle.luf_tree.specs.Level.{deepest, expr_levels, suffix_levels, args_levels};
 ghost use Rattle.luf_descent.specs.Reads.{Found};
 ghost use Rattle.luf_descent.specs.Shapes.{IsShaped, suffixed_shape, lone_args};
@@ -63,7 +64,7 @@ fn suffixed(
     head: Expr,
     suffixes: Items<Suffix>,
 ) -> Result<PrefixExpr, ParseErr>
-    ensures made { IfOk result (λ p. p ≡ record { shape = suffixed_shape calls; expr = expression from to (ExprKind.Suffixed head suffixes) }) }
+    ensures made { IfOk result (λ p. p ≡ record { shape = suffixed_shape calls; expr = suffixed from to head suffixes }) }
     ensures memory { IfErr result (λ e. e ≡ ParseErr.Memory) }
 {
     Ok(PrefixExpr {
@@ -71,12 +72,48 @@ fn suffixed(
         expr: Expr {
             from,
             to,
-            what: ExprKind::Suffixed {
-                head: Boxed::new(alloc, head)?,
-                suffixes,
-            },
+            what: suffixed_kind(alloc, from, head, suffixes)?,
         },
     })
+}
+
+/// A head that begins at `from`, with suffixes. A name needs no box: it is the first token.
+fn suffixed_kind(
+    alloc: Global,
+    from: u32,
+    head: Expr,
+    suffixes: Items<Suffix>,
+) -> Result<ExprKind, ParseErr>
+    ensures made { IfOk result (λ kind. kind ≡ cond (is_name_from from head) (ExprKind.NameSuffixed suffixes) (ExprKind.Suffixed head suffixes)) }
+    ensures memory { IfErr result (λ e. e ≡ ParseErr.Memory) }
+{
+    if is_name_from(from, &head) {
+        return Ok(ExprKind::NameSuffixed(suffixes));
+    }
+    Ok(ExprKind::Suffixed {
+        head: Boxed::new(alloc, head)?,
+        suffixes,
+    })
+}
+
+/// Whether an expression is the name from a place on.
+fn is_name_from(from: u32, e: &Expr) -> bool
+    ensures { result ≡ is_name_from from e.now }
+{
+    e.from == from && is_next(from, e.to) && is_name(&e.what)
+}
+
+/// Whether a place is the one behind another.
+fn is_next(from: u32, to: u32) -> bool
+    ensures { result ≡ nat_eq to (from + 1) }
+{
+    to > from && to - from == 1
+}
+
+fn is_name(what: &ExprKind) -> bool
+    ensures { result ≡ is_name_kind (out-ExprKind what.now) }
+{
+    matches!(what, ExprKind::Name)
 }
 
 /// A name, or an expression in parentheses.

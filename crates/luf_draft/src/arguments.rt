@@ -55,6 +55,7 @@ fn shape_of_one(calls: CallStyle, e: &Expr, had: bool) -> Shape
         | ExprKind::Unary(_)
         | ExprKind::Chain { .. }
         | ExprKind::Power { .. }
+        | ExprKind::NameSuffixed(_)
         | ExprKind::Suffixed { .. } => Shape::Spread,
     }
 }
@@ -75,6 +76,7 @@ fn shape_by_last(last: &Expr) -> Shape
         | ExprKind::Unary(_)
         | ExprKind::Chain { .. }
         | ExprKind::Power { .. }
+        | ExprKind::NameSuffixed(_)
         | ExprKind::Suffixed { .. } => Shape::Spread,
     }
 }

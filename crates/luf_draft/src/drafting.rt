@@ -327,6 +327,12 @@ fn of_expr(cut: &Cut, calls: CallStyle, e: &Expr, into: &mut Vec<Mark>) -> Resul
             of_expr(cut, calls, exponent.get(), into)?;
             add(Mark::Close, into)
         }
+        ExprKind::NameSuffixed(suffixes) => {
+            add(Mark::Open(Part::Sequence), into)?;
+            add(Mark::Token(e.from), into)?;
+            of_suffixes(cut, calls, suffixes.as_slice(), into)?;
+            add(Mark::Close, into)
+        }
         ExprKind::Suffixed { head, suffixes } => {
             add(Mark::Open(Part::Sequence), into)?;
             of_expr(cut, calls, head.get(), into)?;

@@ -116,9 +116,11 @@ fn expression_start(cut: &Cut, e: &Expr) -> Tok
     ensures { writing.opens result ≡ starts.opens_expression (toks_of cut.now) (syntax_of_expr e.now) }
 {
     match &e.what {
-        ExprKind::Number | ExprKind::Str | ExprKind::Name | ExprKind::Unary(_) => {
-            token_at(cut, e.from)
-        }
+        ExprKind::Number
+        | ExprKind::Str
+        | ExprKind::Name
+        | ExprKind::Unary(_)
+        | ExprKind::NameSuffixed(_) => token_at(cut, e.from),
         ExprKind::Paren(_) => Tok::Sign(Sign::LeftParen),
         ExprKind::Nil
         | ExprKind::True

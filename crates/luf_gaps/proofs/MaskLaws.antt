@@ -33,6 +33,7 @@ layer_end i j (ExprKind-F.Table fields) = refl
 layer_end i j (ExprKind-F.Unary operand) = refl
 layer_end i j (ExprKind-F.Chain first rest) = refl
 layer_end i j (ExprKind-F.Power base sign exponent) = refl
+layer_end i j (ExprKind-F.NameSuffixed suffixes) = refl
 layer_end i j (ExprKind-F.Suffixed head suffixes) = refl
 
 kind_end : (i j : ℕ) (what : ExprKind) → end_of_expression (kind_of what i j) ≡ j

@@ -158,6 +158,7 @@ fn of_expr(e: &Expr, mask: &mut [bool])
             of_expr(base.get(), mask);
             of_expr(exponent.get(), mask)
         }
+        ExprKind::NameSuffixed(suffixes) => of_suffixes(suffixes.as_slice(), mask),
         ExprKind::Suffixed { head, suffixes } => {
             of_expr(head.get(), mask);
             of_suffixes(suffixes.as_slice(), mask)

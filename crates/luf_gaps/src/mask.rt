@@ -105,6 +105,7 @@ fn is_lone_item(e: &Expr) -> bool
         | ExprKind::Unary(_)
         | ExprKind::Chain { .. }
         | ExprKind::Power { .. }
+        | ExprKind::NameSuffixed(_)
         | ExprKind::Suffixed { .. } => false,
     }
 }

@@ -1,4 +1,5 @@
 // Gaps of small sources, worked out by hand.
+ghost use Rattle.std.specs.Prelude.{◌≤◌};
 
 use crate::{GapNotes, gaps};
 use luf_lex::cut;
@@ -119,43 +120,69 @@ fn table(rt: HostRuntime) -> Result<(), Fail> {
     Ok(())
 }
 
+/// A call that begins with this token: a lone text in parentheses.
+fn lone_call(alloc: Global, at: u32) -> Result<Items<Suffix>, Memory>
+    requires { at ≤ 100 }
+{
+    let text = Expr {
+        from: at + 1,
+        to: at + 2,
+        what: ExprKind::Str,
+    };
+    let args = Args {
+        from: at,
+        to: at + 3,
+        parens: true,
+        items: Items::from_vec(vec![in alloc; text]?),
+    };
+    Ok(Items::from_vec(vec![in alloc; Suffix::Call(args)]?))
+}
+
+/// A chunk that is a call up to this token.
+fn calling(alloc: Global, to: u32, what: ExprKind) -> Result<Chunk, Memory> {
+    let call = Expr { from: 0, to, what };
+    Ok(chunk_of(vec![in alloc;
+        Stat {
+            from: 0,
+            to,
+            what: StatKind::Call(call)
+        },
+    ]?))
+}
+
 /// A lone argument in parentheses.
 #[test]
 fn call(rt: HostRuntime) -> Result<(), Fail> {
     let alloc = rt.alloc();
-    let text = Expr {
-        from: 2,
-        to: 3,
-        what: ExprKind::Str,
-    };
-    let name = Expr {
-        from: 0,
-        to: 1,
-        what: ExprKind::Name,
-    };
-    let args = Args {
-        from: 1,
-        to: 4,
-        parens: true,
-        items: Items::from_vec(vec![in alloc; text]?),
-    };
-    let suffixed = ExprKind::Suffixed {
-        head: Boxed::new(alloc, name)?,
-        suffixes: Items::from_vec(vec![in alloc; Suffix::Call(args)]?),
-    };
-    let call = Expr {
-        from: 0,
-        to: 4,
-        what: suffixed,
-    };
-    let c = chunk_of(vec![in alloc;
-        Stat {
-            from: 0,
-            to: 4,
-            what: StatKind::Call(call)
-        },
-    ]?);
+    let suffixes = lone_call(alloc, 1)?;
+    let c = calling(alloc, 4, ExprKind::NameSuffixed(suffixes))?;
     let bytes = read(&rt, alloc, b"f(--[[w]] \"s\" --[[x]])", &c)?;
     assert_eq!(rt; bytes.as_slice(), b"()(--[[w]])(--[[x]]$)".as_slice());
+    Ok(())
+}
+
+/// The same behind a head in parentheses, which is such a call itself.
+#[test]
+fn head_in_parentheses(rt: HostRuntime) -> Result<(), Fail> {
+    let alloc = rt.alloc();
+    let inner = Expr {
+        from: 1,
+        to: 5,
+        what: ExprKind::NameSuffixed(lone_call(alloc, 2)?),
+    };
+    let head = Expr {
+        from: 0,
+        to: 6,
+        what: ExprKind::Paren(Boxed::new(alloc, inner)?),
+    };
+    let suffixed = ExprKind::Suffixed {
+        head: Boxed::new(alloc, head)?,
+        suffixes: lone_call(alloc, 6)?,
+    };
+    let c = calling(alloc, 9, suffixed)?;
+    let src = b"(f(--[[v]] \"t\"))(--[[w]] \"s\" --[[x]])";
+    let bytes = read(&rt, alloc, src, &c)?;
+    let wanted = b"()()(--[[v]])()(--[[w]])(--[[x]]$)";
+    assert_eq!(rt; bytes.as_slice(), wanted.as_slice());
     Ok(())
 }

@@ -73,9 +73,11 @@ fn expression_start(cut: &Cut, e: &Expr) -> Tok
     ensures { opens result ≡ opens_first (toks_of cut.now) (items_in_expression (toks_of cut.now) (syntax_of_expr e.now)) }
 {
     match &e.what {
-        ExprKind::Number | ExprKind::Str | ExprKind::Name | ExprKind::Unary(_) => {
-            token_at(cut, e.from)
-        }
+        ExprKind::Number
+        | ExprKind::Str
+        | ExprKind::Name
+        | ExprKind::Unary(_)
+        | ExprKind::NameSuffixed(_) => token_at(cut, e.from),
         ExprKind::Paren(_) => Tok::Sign(Sign::LeftParen),
         ExprKind::Nil
         | ExprKind::True
@@ -123,6 +125,7 @@ fn is_lone_item(e: &Expr) -> bool
         | ExprKind::Unary(_)
         | ExprKind::Chain { .. }
         | ExprKind::Power { .. }
+        | ExprKind::NameSuffixed(_)
         | ExprKind::Suffixed { .. } => false,
     }
 }

@@ -250,6 +250,10 @@ fn of_expr(cut: &Cut, e: &Expr, into: &mut Vec<Item>) -> Result<(), Memory>
             add_token(*sign, into)?;
             of_expr(cut, exponent.get(), into)
         }
+        ExprKind::NameSuffixed(suffixes) => {
+            add_token(e.from, into)?;
+            of_suffixes(cut, suffixes.as_slice(), into)
+        }
         ExprKind::Suffixed { head, suffixes } => {
             of_expr(cut, head.get(), into)?;
             of_suffixes(cut, suffixes.as_slice(), into)

@@ -13,7 +13,7 @@ use Rattle.luf_tree.specs.declared.tree.Field.{Field}
 use Rattle.luf_tree.specs.Operator.{is_unary}
 use Rattle.luf_tree.specs.First.{starts_expr}
 use Rattle.luf_tree.specs.Grammar as g
-use Rattle.luf_tree.specs.Grammar.{At, expression, IsToken, IsString, AreDeclared, IsExpr, IsSimple, IsPrefix, IsCall, IsParen, IsHead, AreExprs, IsTable, IsSemicolon, IsReturn, AreTargets, IsElse, IsForStep}
+use Rattle.luf_tree.specs.Grammar.{At, expression, suffixed, IsToken, IsString, AreDeclared, IsExpr, IsSimple, IsPrefix, IsCall, IsParen, IsHead, AreExprs, IsTable, IsSemicolon, IsReturn, AreTargets, IsElse, IsForStep}
 use Rattle.luf_tree.proofs.TokenLaws.{expr_starts}
 use Rattle.luf_descent.specs.Exact.{Alone}
 use Rattle.luf_descent.specs.Follow.{NotAt, NotAssigned, NotString, IsSeparator, EndsExpr, EndsExprs, sign_begins_prefix, begins_prefix, ends_field, EndsField, precedence_at}
@@ -124,7 +124,7 @@ head_alone {toks} d only ends = alone_form prefix_form (alone_next only (λ y h.
 
 -- a head and suffixes
 pub suffixed_only : {toks : List Tok} {left i j k : ℕ} {calls : Bool} {head : Expr} {suffixes : List Suffix} → IsHead toks i j head → OnlyHead toks left i head → begins_suffix toks j ≡ true → Alone (SuffixesRead toks left j) (suffixes, (calls, k))
-    → Alone (ReadPrefix toks left i) (record { shape = suffixed_shape calls; expr = expression i k (expr.Suffixed head suffixes) })
+    → Alone (ReadPrefix toks left i) (record { shape = suffixed_shape calls; expr = suffixed i k head suffixes })
 suffixed_only {toks} {left} {i} {j} {k} {calls} {head} {suffixes} d first begins only = alone_form prefix_form (alone_next first.alone (λ y h. alone_next at_head (alone_is refl) y (h.more (subst (λ p. begins_suffix toks p ≡ true) (sym (head_to d)) begins))))
   where
     at_head : Alone (ReadSuffixes toks left (out-Expr head).to) (suffixes, calls, k)

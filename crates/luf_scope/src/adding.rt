@@ -173,6 +173,7 @@ pub fn plain_variable(e: &Expr) -> Option<u32>
         | ExprKind::Unary(_)
         | ExprKind::Chain { .. }
         | ExprKind::Power { .. }
+        | ExprKind::NameSuffixed(_)
         | ExprKind::Suffixed { .. } => None,
     }
 }

@@ -299,6 +299,10 @@ fn of_expr(all: bool, e: &Expr, into: &mut Vec<Occurrence>) -> Result<(), Memory
             of_expr(all, base.get(), into)?;
             of_expr(all, exponent.get(), into)
         }
+        ExprKind::NameSuffixed(suffixes) => {
+            add(all, Occurrence::Reads(e.from), into)?;
+            of_suffixes(all, suffixes.as_slice(), into)
+        }
         ExprKind::Suffixed { head, suffixes } => {
             of_expr(all, head.get(), into)?;
             of_suffixes(all, suffixes.as_slice(), into)

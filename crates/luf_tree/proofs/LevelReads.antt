@@ -32,7 +32,10 @@ pub chain_read : (e : Expr) (first : Expr) (rest : List Step) → (out-Expr e).w
 chain_read e first rest is = expr_read e (expr.Chain first rest) is ∙ lv.chain_levels (out-Expr e).from (out-Expr e).to first rest
 
 pub suffixed_read : (e : Expr) (head : Expr) (suffixes : List Suffix) → (out-Expr e).what ≡ expr.Suffixed head suffixes → expr_levels e ≡ max (expr_levels head) (deepest (map suffix_levels suffixes))
-suffixed_read e head suffixes is = expr_read e (expr.Suffixed head suffixes) is ∙ lv.suffixed_levels (out-Expr e).from (out-Expr e).to head suffixes
+suffixed_read e head suffixes is = expr_read e (expr.Suffixed head suffixes) is ∙ lv.head_suffixed_levels (out-Expr e).from (out-Expr e).to head suffixes
+
+pub name_suffixed_read : (e : Expr) (suffixes : List Suffix) → (out-Expr e).what ≡ expr.NameSuffixed suffixes → expr_levels e ≡ max 0 (deepest (map suffix_levels suffixes))
+name_suffixed_read e suffixes is = expr_read e (expr.NameSuffixed suffixes) is ∙ lv.name_suffixed_levels (out-Expr e).from (out-Expr e).to suffixes
 
 pub local_read : (s : Stat) (names : List Declared) (values : List Expr) → (out-Stat s).what ≡ stat.Local names values → stat_levels s ≡ deepest (map expr_levels values)
 local_read s names values is = stat_read s (stat.Local names values) is ∙ lv.local_levels (out-Stat s).from (out-Stat s).to names values

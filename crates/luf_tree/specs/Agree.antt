@@ -2,9 +2,8 @@
 use Rattle.std.specs.Prelude.{◌≡◌, ℕ, ◌<◌, ◌≤◌, List, [], ◌∷◌, slice_get, take}
 use Rattle.luf_lex.specs.declared.token.Tok.{Tok}
 use Rattle.luf_tree.specs.declared.tree.Expr.{Expr}
-use Rattle.luf_tree.specs.declared.tree.ExprKind.TheVariants as expr
 use Rattle.luf_tree.specs.declared.tree.Suffix.{Suffix}
-use Rattle.luf_tree.specs.Grammar.{NoParenFollows, IsPrefix, IsExpr, expression}
+use Rattle.luf_tree.specs.Grammar.{NoParenFollows, IsPrefix, IsExpr, suffixed}
 
 -- the other list has the same tokens before a place
 pub record AgreeBefore (toks other : List Tok) (place : ℕ) : Type 0 where
@@ -19,7 +18,7 @@ pub record IsLocal (toks : List Tok) (i j : ℕ) (Derived : List Tok → Type 0)
 -- a head with the first of its suffixes
 abbrev pub front_of : ℕ → ℕ → Expr → List Suffix → Expr
 front_of i j head [] = head
-front_of i j head (s ∷ front) = expression i j (expr.Suffixed head (s ∷ front))
+front_of i j head (s ∷ front) = suffixed i j head (s ∷ front)
 
 -- The front of a suffixed expression ends somewhere within it. It is a prefix expression there, and an expression by
 -- itself where the tokens are cut off at its end.

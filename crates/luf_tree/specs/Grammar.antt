@@ -6,7 +6,7 @@
 -- expression. And a `(` that can continue a call continues it (after 3.3.1): no `(` follows a prefix expression
 -- that is whole (`NoParenFollows`). So of two statements the first does not end in a prefix expression where the second
 -- begins with `(`.
-use Rattle.std.specs.Prelude.{◌≡◌, ℕ, ◌+◌, ◌<◌, ◌≤◌, ◌⊎◌, Bool, true, false, Option, Some, None, List, [], ◌∷◌, length, slice_get}
+use Rattle.std.specs.Prelude.{◌≡◌, ℕ, ◌+◌, ◌<◌, ◌≤◌, ◌⊎◌, Bool, true, false, ◌&&◌, cond, nat_eq, Option, Some, None, List, [], ◌∷◌, length, slice_get}
 use Rattle.luf_lex.specs.declared.token.Tok.{Tok}
 use Rattle.luf_lex.specs.declared.token.Tok.TheVariants.{Name, Number, Short, Long, Word, Sign}
 use Rattle.luf_lex.specs.declared.token.Word.TheVariants as word
@@ -21,7 +21,9 @@ use Rattle.luf_tree.specs.declared.tree.Arm.{Arm, roll-Arm}
 use Rattle.luf_tree.specs.declared.tree.FuncBody.{FuncBody, roll-FuncBody}
 use Rattle.luf_tree.specs.declared.tree.Expr.{Expr, roll-Expr}
 use Rattle.luf_tree.specs.declared.tree.ExprKind.{ExprKind}
+use Rattle.luf_tree.specs.declared.tree.ExprKind.TheOpen.{ExprKind-F}
 use Rattle.luf_tree.specs.declared.tree.ExprKind.TheVariants as expr
+use Rattle.luf_tree.specs.declared.tree.ExprKind.TheViews.{out-Expr, out-ExprKind}
 use Rattle.luf_tree.specs.declared.tree.Step.{Step, roll-Step}
 use Rattle.luf_tree.specs.declared.tree.Suffix.{Suffix}
 use Rattle.luf_tree.specs.declared.tree.Suffix.TheVariants as suffix
@@ -50,6 +52,18 @@ NoParenFollows toks i = At toks i (Sign sign.LeftParen) → ⊥
 -- an expression or a statement of the tokens from i to j
 abbrev pub expression : ℕ → ℕ → ExprKind → Expr
 expression i j kind = roll-Expr (record { from = i; to = j; what = kind })
+
+abbrev pub is_name_kind : {a b c d e f g h i j k : Type 0} → ExprKind-F a b c d e f g h i j k → Bool
+is_name_kind ExprKind-F.Name = true
+is_name_kind _ = false
+
+-- this expression is the name from i on
+abbrev pub is_name_from : ℕ → Expr → Bool
+is_name_from i e = (nat_eq (out-Expr e).from i && nat_eq (out-Expr e).to (i + 1)) && is_name_kind (out-ExprKind (out-Expr e).what)
+
+-- a head and its suffixes; a name needs no place of its own, since it begins where the whole does
+abbrev pub suffixed : ℕ → ℕ → Expr → List Suffix → Expr
+suffixed i j head suffixes = expression i j (cond (is_name_from i head) (expr.NameSuffixed suffixes) (expr.Suffixed head suffixes))
 
 abbrev pub statement : ℕ → ℕ → StatKind → Stat
 statement i j kind = roll-Stat (record { from = i; to = j; what = kind })
@@ -137,12 +151,12 @@ mutual
   pub data IsVariable (toks : List Tok) : ℕ → ℕ → Expr → Type 0 where
     name_variable : {i j : ℕ} → IsToken toks i Name j → IsVariable toks i j (expression i j expr.Name)
     suffixed_variable : {i j k : ℕ} {head : Expr} {suffixes : List Suffix} → IsHead toks i j head → AreSuffixes toks false j k suffixes
-        → IsVariable toks i k (expression i k (expr.Suffixed head suffixes))
+        → IsVariable toks i k (suffixed i k head suffixes)
 
   -- call = prefix [':' Name] args
   pub data IsCall (toks : List Tok) : ℕ → ℕ → Expr → Type 0 where
     suffixed_call : {i j k : ℕ} {head : Expr} {suffixes : List Suffix} → IsHead toks i j head → AreSuffixes toks true j k suffixes
-        → IsCall toks i k (expression i k (expr.Suffixed head suffixes))
+        → IsCall toks i k (suffixed i k head suffixes)
 
   -- '(' exp ')'
   pub data IsParen (toks : List Tok) : ℕ → ℕ → Expr → Type 0 where

@@ -7,7 +7,7 @@ ghost use Rattle.luf_tree.specs.declared.tree.Expr.{Expr};
 ghost use Rattle.luf_tree.specs.declared.tree.Suffix.{Suffix};
 ghost use Rattle.luf_tree.specs.Agree.{Front, IsLocal};
 ghost use Rattle.luf_tree.specs.Entry.{entries, greatest_level};
-ghost use Rattle.luf_tree.specs.Grammar.{AreSuffixes, IsBlock, IsExpr, IsHead};
+ghost use Rattle.luf_tree.specs.Grammar.{AreSuffixes, IsBlock, IsChunk, IsExpr, IsHead};
 ghost use Rattle.luf_tree.specs.Level.{depth_of};
 ghost use Rattle.luf_tree.specs.SyntaxOf.{syntax_of};
 
@@ -41,7 +41,7 @@ pub fn front_alone()
     ensures { (toks : List Tok) (calls : Bool) (i j k : ℕ) (head : Expr) (front rest : List Suffix) → IsHead toks i j head → AreSuffixes toks calls j k (front ++ rest) → Front toks i k head front }
 {}
 
-/// The syntax of a chunk loses nothing of it: two chunks of one syntax are one.
+/// The syntax of a chunk loses nothing of it: two chunks of one syntax are one, whatever tokens each is of.
 pub fn one_chunk_of_syntax()
-    ensures { (c d : Chunk) → syntax_of c ≡ syntax_of d → c ≡ d }
+    ensures { (toks other : List Tok) (c d : Chunk) → IsChunk toks c → IsChunk other d → syntax_of c ≡ syntax_of d → c ≡ d }
 {}

@@ -125,6 +125,7 @@ fn of_expr(e: &Expr) -> u32
         ExprKind::Power { base, exponent, .. } => {
             of_expr(base.get()).max(deeper(of_expr(exponent.get())))
         }
+        ExprKind::NameSuffixed(suffixes) => of_suffixes(suffixes.as_slice()),
         ExprKind::Suffixed { head, suffixes } => {
             of_expr(head.get()).max(of_suffixes(suffixes.as_slice()))
         }

@@ -147,7 +147,9 @@ pub enum ExprKind {
         sign: u32,
         exponent: Boxed<Expr>,
     },
-    /// A name or a parenthesised expression, and what follows it, at least one suffix.
+    /// A name, the first token, and what follows it, at least one suffix.
+    NameSuffixed(Items<Suffix>),
+    /// A parenthesised expression, and what follows it, at least one suffix.
     Suffixed {
         head: Boxed<Expr>,
         suffixes: Items<Suffix>,

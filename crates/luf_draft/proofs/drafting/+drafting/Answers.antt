@@ -97,7 +97,7 @@ pub of_expr-returns-in_ok-of_expr-in-Power-2 : goal.of_expr-returns-in_ok-of_exp
 of_expr-returns-in_ok-of_expr-in-Power-2 t c = all_of _ _ _ _ _ (ap (marks_in_expression (toks_of c.args.cut.now) (keeps_round_string c.args.calls) (keeps_round_table c.args.calls)) (expr_read c.args.e.now _ c.in-Power.is ∙ eq.power_syntax _ _ c.in-Power.base c.in-Power.sign c.in-Power.exponent)) (then _ _ _ _ _ _ c.in_ok-add-in-Power.ensures (then _ _ _ _ _ _ (lent_on (λ x. marks_in_expression (toks_of c.args.cut.now) (keeps_round_string c.args.calls) (keeps_round_table c.args.calls) (syntax_of_expr x)) c.in-Power.base _ _ _ c.get-in-Power.ensures c.in_ok-of_expr-in-Power.ensures) (then _ _ _ _ _ _ c.in_ok-add_power_sign-in-Power.ensures (then _ _ _ _ _ _ (lent_on (λ x. marks_in_expression (toks_of c.args.cut.now) (keeps_round_string c.args.calls) (keeps_round_table c.args.calls) (syntax_of_expr x)) c.in-Power.exponent _ _ _ c.get-in-Power-2.ensures c.in_ok-of_expr-in-Power-2.ensures) (ends _ _ _ _ c.add-in-Power-2.ensures)))))
 
 pub of_expr-returns-in_ok-of_suffixes-in-Suffixed : goal.of_expr-returns-in_ok-of_suffixes-in-Suffixed
-of_expr-returns-in_ok-of_suffixes-in-Suffixed t c = all_of _ _ _ _ _ (ap (marks_in_expression (toks_of c.args.cut.now) (keeps_round_string c.args.calls) (keeps_round_table c.args.calls)) (expr_read c.args.e.now _ c.in-Suffixed.is ∙ eq.suffixed_syntax _ _ c.in-Suffixed.head c.in-Suffixed.suffixes)) (then _ _ _ _ _ _ c.in_ok-add-in-Suffixed.ensures (then _ _ _ _ _ _ (lent_on (λ x. marks_in_expression (toks_of c.args.cut.now) (keeps_round_string c.args.calls) (keeps_round_table c.args.calls) (syntax_of_expr x)) c.in-Suffixed.head _ _ _ c.get-in-Suffixed.ensures c.in_ok-of_expr-in-Suffixed.ensures) (then _ _ _ _ _ _ (lent_on (λ xs. marks_in_suffixes (toks_of c.args.cut.now) (keeps_round_string c.args.calls) (keeps_round_table c.args.calls) (suffixes_of (map syntax_of_suffix xs))) c.in-Suffixed.suffixes _ _ _ c.as_slice-in-Suffixed.ensures c.in_ok-of_suffixes-in-Suffixed.ensures) (ends _ _ _ _ c.add-in-Suffixed-2.ensures))))
+of_expr-returns-in_ok-of_suffixes-in-Suffixed t c = all_of _ _ _ _ _ (ap (marks_in_expression (toks_of c.args.cut.now) (keeps_round_string c.args.calls) (keeps_round_table c.args.calls)) (expr_read c.args.e.now _ c.in-Suffixed.is ∙ eq.head_suffixed_syntax _ _ c.in-Suffixed.head c.in-Suffixed.suffixes)) (then _ _ _ _ _ _ c.in_ok-add-in-Suffixed.ensures (then _ _ _ _ _ _ (lent_on (λ x. marks_in_expression (toks_of c.args.cut.now) (keeps_round_string c.args.calls) (keeps_round_table c.args.calls) (syntax_of_expr x)) c.in-Suffixed.head _ _ _ c.get-in-Suffixed.ensures c.in_ok-of_expr-in-Suffixed.ensures) (then _ _ _ _ _ _ (lent_on (λ xs. marks_in_suffixes (toks_of c.args.cut.now) (keeps_round_string c.args.calls) (keeps_round_table c.args.calls) (suffixes_of (map syntax_of_suffix xs))) c.in-Suffixed.suffixes _ _ _ c.as_slice-in-Suffixed.ensures c.in_ok-of_suffixes-in-Suffixed.ensures) (ends _ _ _ _ c.add-in-Suffixed-2.ensures))))
 
 pub of_suffix-returns-in-Dot : goal.of_suffix-returns-in-Dot
 of_suffix-returns-in-Dot t c = whole _ _ _ _ _ (ap (λ s. marks_in_suffix (toks_of c.args.cut.now) (keeps_round_string c.args.calls) (keeps_round_table c.args.calls) (syntax_of_suffix s)) c.in-Dot.is ∙ ap (marks_in_suffix (toks_of c.args.cut.now) (keeps_round_string c.args.calls) (keeps_round_table c.args.calls)) (eq.dot_syntax c.in-Dot.name)) c.add_dot.ensures

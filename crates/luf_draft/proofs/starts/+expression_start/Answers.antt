@@ -22,4 +22,4 @@ pub returns-in-Suffixed : goal.returns-in-Suffixed
 returns-in-Suffixed t c =
     c.expression_start-in-Suffixed.ensures
     ∙ ap (λ e. opens_expression (toks_of c.args.cut.now) (syntax_of_expr e)) c.get-in-Suffixed.ensures
-    ∙ sym (ap (opens_expression (toks_of c.args.cut.now)) (expr_read c.args.e.now _ c.in-Suffixed.is ∙ eq.suffixed_syntax _ _ c.in-Suffixed.head c.in-Suffixed.suffixes))
+    ∙ sym (ap (opens_expression (toks_of c.args.cut.now)) (expr_read c.args.e.now _ c.in-Suffixed.is ∙ eq.head_suffixed_syntax _ _ c.in-Suffixed.head c.in-Suffixed.suffixes))

@@ -107,7 +107,7 @@ pub of_expr-returns-in-Power : goal.of_expr-returns-in-Power
 of_expr-returns-in-Power t c = same dropped_expression (expr_read c.args.e.now _ c.in-Power.is ∙ eq.power_syntax _ _ c.in-Power.base c.in-Power.sign c.in-Power.exponent) (then (lent (λ e. dropped_expression (syntax_of_expr e)) c.get-in-Power.ensures c.of_expr-in-Power.ensures) (lent (λ e. dropped_expression (syntax_of_expr e)) c.get-in-Power-2.ensures c.of_expr-in-Power-2.ensures))
 
 pub of_expr-returns-in-Suffixed : goal.of_expr-returns-in-Suffixed
-of_expr-returns-in-Suffixed t c = same dropped_expression (expr_read c.args.e.now _ c.in-Suffixed.is ∙ eq.suffixed_syntax _ _ c.in-Suffixed.head c.in-Suffixed.suffixes) (then (lent (λ e. dropped_expression (syntax_of_expr e)) c.get-in-Suffixed.ensures c.of_expr-in-Suffixed.ensures) (lent (λ xs. dropped_suffixes (suffixes_of (map syntax_of_suffix xs))) c.as_slice-in-Suffixed.ensures c.of_suffixes.ensures))
+of_expr-returns-in-Suffixed t c = same dropped_expression (expr_read c.args.e.now _ c.in-Suffixed.is ∙ eq.head_suffixed_syntax _ _ c.in-Suffixed.head c.in-Suffixed.suffixes) (then (lent (λ e. dropped_expression (syntax_of_expr e)) c.get-in-Suffixed.ensures c.of_expr-in-Suffixed.ensures) (lent (λ xs. dropped_suffixes (suffixes_of (map syntax_of_suffix xs))) c.as_slice-in-Suffixed.ensures c.of_suffixes-in-Suffixed.ensures))
 
 pub of_suffix-returns-in-Dot : goal.of_suffix-returns-in-Dot
 of_suffix-returns-in-Dot t c = same (λ s. dropped_suffix s) (ap syntax_of_suffix c.in-Dot.is ∙ eq.dot_syntax c.in-Dot.field-0) (nothing _)

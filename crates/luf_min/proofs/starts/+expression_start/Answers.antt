@@ -27,5 +27,5 @@ pub returns-in-Suffixed : goal.returns-in-Suffixed
 returns-in-Suffixed t c =
     c.expression_start-in-Suffixed.ensures
     ∙ ap (λ e. opens_first (toks_of c.args.cut.now) (items_in_expression (toks_of c.args.cut.now) (syntax_of_expr e))) c.get-in-Suffixed.ensures
-    ∙ sym (ap (λ e. opens_first (toks_of c.args.cut.now) (items_in_expression (toks_of c.args.cut.now) e)) (expr_read c.args.e.now _ c.in-Suffixed.is ∙ eq.suffixed_syntax _ _ c.in-Suffixed.head c.in-Suffixed.suffixes)
+    ∙ sym (ap (λ e. opens_first (toks_of c.args.cut.now) (items_in_expression (toks_of c.args.cut.now) e)) (expr_read c.args.e.now _ c.in-Suffixed.is ∙ eq.head_suffixed_syntax _ _ c.in-Suffixed.head c.in-Suffixed.suffixes)
     ∙ suffixed_begun (toks_of c.args.cut.now) (from_to (out-Expr c.args.e.now).from (out-Expr c.args.e.now).to) (syntax_of_expr c.in-Suffixed.head) (suffixes_of (map syntax_of_suffix c.in-Suffixed.suffixes)))

@@ -75,8 +75,11 @@ of_expr-returns-in_ok-of_expr-in-Chain t c = all_of _ _ _ _ _ (ap (items_in_expr
 pub of_expr-returns-in_ok-add_token-in-Power : goal.of_expr-returns-in_ok-add_token-in-Power
 of_expr-returns-in_ok-add_token-in-Power t c = all_of _ _ _ _ _ (ap (items_in_expression (toks_of c.args.cut.now)) (expr_read c.args.e.now _ c.in-Power.is ∙ eq.power_syntax _ _ c.in-Power.base c.in-Power.sign c.in-Power.exponent)) (then _ _ _ _ _ _ (lent_on (λ x. items_in_expression (toks_of c.args.cut.now) (syntax_of_expr x)) c.in-Power.base _ _ _ c.get-in-Power.ensures c.in_ok-of_expr-in-Power.ensures) (then _ _ _ _ _ _ c.in_ok-add_token-in-Power.ensures (ends _ _ _ _ (lent (λ x. items_in_expression (toks_of c.args.cut.now) (syntax_of_expr x)) c.in-Power.exponent _ _ _ _ c.get-in-Power-2.ensures c.of_expr-in-Power-2.ensures))))
 
+pub of_expr-returns-in_ok-add_token-in-NameSuffixed : goal.of_expr-returns-in_ok-add_token-in-NameSuffixed
+of_expr-returns-in_ok-add_token-in-NameSuffixed t c = all_of _ _ _ _ _ (ap (items_in_expression (toks_of c.args.cut.now)) (expr_read c.args.e.now _ c.in-NameSuffixed.is ∙ eq.name_suffixed_syntax _ _ c.in-NameSuffixed.suffixes)) (then _ _ _ _ _ _ c.in_ok-add_token-in-NameSuffixed.ensures (ends _ _ _ _ (lent (λ ss. items_in_suffixes (toks_of c.args.cut.now) (suffixes_of (map syntax_of_suffix ss))) c.in-NameSuffixed.suffixes _ _ _ _ c.as_slice-in-NameSuffixed.ensures c.of_suffixes.ensures)))
+
 pub of_expr-returns-in_ok-of_expr-in-Suffixed : goal.of_expr-returns-in_ok-of_expr-in-Suffixed
-of_expr-returns-in_ok-of_expr-in-Suffixed t c = all_of _ _ _ _ _ (ap (items_in_expression (toks_of c.args.cut.now)) (expr_read c.args.e.now _ c.in-Suffixed.is ∙ eq.suffixed_syntax _ _ c.in-Suffixed.head c.in-Suffixed.suffixes)) (then _ _ _ _ _ _ (lent_on (λ x. items_in_expression (toks_of c.args.cut.now) (syntax_of_expr x)) c.in-Suffixed.head _ _ _ c.get-in-Suffixed.ensures c.in_ok-of_expr-in-Suffixed.ensures) (ends _ _ _ _ (lent (λ ss. items_in_suffixes (toks_of c.args.cut.now) (suffixes_of (map syntax_of_suffix ss))) c.in-Suffixed.suffixes _ _ _ _ c.as_slice-in-Suffixed.ensures c.of_suffixes.ensures)))
+of_expr-returns-in_ok-of_expr-in-Suffixed t c = all_of _ _ _ _ _ (ap (items_in_expression (toks_of c.args.cut.now)) (expr_read c.args.e.now _ c.in-Suffixed.is ∙ eq.head_suffixed_syntax _ _ c.in-Suffixed.head c.in-Suffixed.suffixes)) (then _ _ _ _ _ _ (lent_on (λ x. items_in_expression (toks_of c.args.cut.now) (syntax_of_expr x)) c.in-Suffixed.head _ _ _ c.get-in-Suffixed.ensures c.in_ok-of_expr-in-Suffixed.ensures) (ends _ _ _ _ (lent (λ ss. items_in_suffixes (toks_of c.args.cut.now) (suffixes_of (map syntax_of_suffix ss))) c.in-Suffixed.suffixes _ _ _ _ c.as_slice-in-Suffixed.ensures c.of_suffixes-in-Suffixed.ensures)))
 
 pub of_step-returns : goal.of_step-returns
 of_step-returns t c = all_of _ _ _ _ _ (ap (items_in_operation (toks_of c.args.cut.now)) (step_read c.args.s.now)) (then _ _ _ _ _ _ c.in_ok-add_token.ensures (ends _ _ _ _ c.of_expr.ensures))

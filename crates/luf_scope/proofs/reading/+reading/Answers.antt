@@ -83,8 +83,11 @@ of_expr-returns-in_ok-of_expr-in-Chain t c = whole c.args.all _ _ _ _ _ (ap occu
 pub of_expr-returns-in_ok-of_expr-in-Power : goal.of_expr-returns-in_ok-of_expr-in-Power
 of_expr-returns-in_ok-of_expr-in-Power t c = whole c.args.all _ _ _ _ _ (ap occurrences_in_expression (expr_read c.args.e.now _ c.in-Power.is ∙ eq.power_syntax _ _ c.in-Power.base c.in-Power.sign c.in-Power.exponent)) (then _ _ _ _ _ _ (lent_on (λ x. occurrences_in_expression (syntax_of_expr x)) c.in-Power.base _ _ _ c.get-in-Power.ensures c.in_ok-of_expr-in-Power.ensures) (lent c.args.all (λ x. occurrences_in_expression (syntax_of_expr x)) c.in-Power.exponent _ _ _ _ c.get-in-Power-2.ensures c.of_expr-in-Power-2.ensures))
 
+pub of_expr-returns-in_ok-add-in-NameSuffixed : goal.of_expr-returns-in_ok-add-in-NameSuffixed
+of_expr-returns-in_ok-add-in-NameSuffixed t c = whole c.args.all _ _ _ _ _ (ap occurrences_in_expression (expr_read c.args.e.now _ c.in-NameSuffixed.is ∙ eq.name_suffixed_syntax _ _ c.in-NameSuffixed.suffixes)) (then _ _ _ _ _ _ c.in_ok-add-in-NameSuffixed.ensures (lent c.args.all (λ ss. occurrences_in_suffixes (suffixes_of (map syntax_of_suffix ss))) c.in-NameSuffixed.suffixes _ _ _ _ c.as_slice-in-NameSuffixed.ensures c.of_suffixes.ensures))
+
 pub of_expr-returns-in_ok-of_expr-in-Suffixed : goal.of_expr-returns-in_ok-of_expr-in-Suffixed
-of_expr-returns-in_ok-of_expr-in-Suffixed t c = whole c.args.all _ _ _ _ _ (ap occurrences_in_expression (expr_read c.args.e.now _ c.in-Suffixed.is ∙ eq.suffixed_syntax _ _ c.in-Suffixed.head c.in-Suffixed.suffixes)) (then _ _ _ _ _ _ (lent_on (λ x. occurrences_in_expression (syntax_of_expr x)) c.in-Suffixed.head _ _ _ c.get-in-Suffixed.ensures c.in_ok-of_expr-in-Suffixed.ensures) (lent c.args.all (λ ss. occurrences_in_suffixes (suffixes_of (map syntax_of_suffix ss))) c.in-Suffixed.suffixes _ _ _ _ c.as_slice-in-Suffixed.ensures c.of_suffixes.ensures))
+of_expr-returns-in_ok-of_expr-in-Suffixed t c = whole c.args.all _ _ _ _ _ (ap occurrences_in_expression (expr_read c.args.e.now _ c.in-Suffixed.is ∙ eq.head_suffixed_syntax _ _ c.in-Suffixed.head c.in-Suffixed.suffixes)) (then _ _ _ _ _ _ (lent_on (λ x. occurrences_in_expression (syntax_of_expr x)) c.in-Suffixed.head _ _ _ c.get-in-Suffixed.ensures c.in_ok-of_expr-in-Suffixed.ensures) (lent c.args.all (λ ss. occurrences_in_suffixes (suffixes_of (map syntax_of_suffix ss))) c.in-Suffixed.suffixes _ _ _ _ c.as_slice-in-Suffixed.ensures c.of_suffixes-in-Suffixed.ensures))
 
 pub of_field-returns-in_ok-add-in-Named : goal.of_field-returns-in_ok-add-in-Named
 of_field-returns-in_ok-add-in-Named t c = whole c.args.all _ _ _ _ _ (ap (λ f. occurrences_in_field (syntax_of_field f)) c.in-Named.is ∙ ap occurrences_in_field (eq.named_syntax c.in-Named.name c.in-Named.value)) (then _ _ _ _ _ _ c.in_ok-add-in-Named.ensures c.of_expr-in-Named.ensures)

@@ -30,6 +30,9 @@ of_expr-returns-in-Table t c = omega (arith, read.table_read c.args.e.now c.in-T
 pub of_expr-returns-in-Chain : goal.of_expr-returns-in-Chain
 of_expr-returns-in-Chain t c = omega (arith, read.chain_read c.args.e.now c.in-Chain.first c.in-Chain.rest c.in-Chain.is, ap (λ xs. deepest (map step_levels xs)) c.as_slice-in-Chain.ensures, ap expr_levels c.get-in-Chain.ensures)
 
+pub of_expr-returns-in-NameSuffixed : goal.of_expr-returns-in-NameSuffixed
+of_expr-returns-in-NameSuffixed t c = omega (arith, read.name_suffixed_read c.args.e.now c.in-NameSuffixed.suffixes c.in-NameSuffixed.is, ap (λ xs. deepest (map suffix_levels xs)) c.as_slice-in-NameSuffixed.ensures)
+
 pub of_expr-returns-in-Suffixed : goal.of_expr-returns-in-Suffixed
 of_expr-returns-in-Suffixed t c = omega (arith, read.suffixed_read c.args.e.now c.in-Suffixed.head c.in-Suffixed.suffixes c.in-Suffixed.is, ap (λ xs. deepest (map suffix_levels xs)) c.as_slice-in-Suffixed.ensures, ap expr_levels c.get-in-Suffixed.ensures)
 
