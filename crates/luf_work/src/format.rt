@@ -8,7 +8,6 @@ ghost use Rattle.luf_work.specs.inner.Read.{IsRead};
 ghost use Rattle.luf_work.specs.declared.refusal.Refusal.{Refusal as Cause};
 
 use crate::hash::write_hash_line;
-use crate::room::make_room;
 use crate::source::{ReadSource, accepted, discard};
 use crate::{Refusal, TEXT_LIMIT};
 use luf_conf::Options;
@@ -49,9 +48,6 @@ pub fn format_bytes(
     ensures too_large { IsErrOf result Refusal.TooLarge ↔ (source_limit < length src.now) }
     ensures err { OnErr result (into.new.items ≡ into.old.items) }
 {
-    if let Err(e) = make_room(src, into) {
-        return Err(Refusal::from(e));
-    }
     let source = accepted(alloc, src)?;
     let len = into.len();
     let written = write_text(alloc, src, &source, o, into);
